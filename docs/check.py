@@ -394,7 +394,8 @@ def lists(repo):
     lost = []
     rows = {line.split("|")[1].strip() for line in read("docs/REFERENCE.md").split("\n") if line.startswith("|")}
     listed = {name for row in rows for name in row.split(", ")}
-    folders = ("crates/instruction_set/specs/", "crates/platform/specs/", "crates/reference/specs/", "crates/task_laws/specs/")
+    crates = ("instruction_set", "devices", "platform", "reference", "task_laws")
+    folders = tuple(f"crates/{crate}/specs/" for crate in crates)
     chapters = {os.path.basename(path)[:-5] for path in repo.files if path.startswith(folders)} - {"Lib"}
     lost += [("docs/REFERENCE.md", chapter) for chapter in sorted(chapters - listed)]
     lost += [("docs/REFERENCE.md", name) for name in sorted(listed - chapters) if re.match(r"^[A-Z]\w+$", name) and name != "File"]

@@ -249,6 +249,7 @@ COUNTS = {
     "edge stops": lambda: cases("test_instructions", "edge_stops"),
     "register rows": lambda: table_lines("test_instructions", "registers"),
     "runs": lambda: cases("test_runs", RUNS),
+    "device runs": lambda: cases("test_runs", "device_accesses device_lines:LINES"),
     "faults": lambda: cases("test_runs", "fault_registers:FAULTS"),
     "stored runs": lambda: cases("test_runs", "files:RUNS board_messages"),
     "stored images": lambda: cases("test_runs", "stored_faults stored_handlers"),

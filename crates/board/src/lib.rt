@@ -28,9 +28,11 @@ mod values;
 pub use board::Board;
 pub use device_effects::{effects_in, is_device_line, line_in};
 pub use device_parts::{Effects, Span, Values};
-pub use device_span::{is_device_word, is_driven, is_followed, is_in_device, is_named, span_in};
+pub use device_span::{
+    DEFAULT_DEVICE_BYTES, is_device_word, is_driven, is_followed, is_in_device, is_named, span_in,
+};
 pub use device_tables::{devices_at, goes_with, has_device_keys, listed_device};
-pub use device_values::{flag, stores_named, values_in};
+pub use device_values::{DEFAULT_PLACES, PLACES, flag, stores_named, values_in};
 pub use devices::{Device, Line, MOST_DEVICES, Poke, Stores};
 pub use events::{MOST_SCRIPT_EVENTS, change, is_free_line, nmi};
 use events::{script_of, tables};

@@ -2,7 +2,7 @@
 use Rattle.std.proofs.Common.{◌≡◌, ◌<◌, ◌||◌, ℕ, zero, suc, Bool, true, false, List, [], ◌∷◌}
 use Rattle.std.proofs.Common.{Option, Some, None, Result, Ok, Err}
 use Rattle.std.proofs.Common.{refl, ◌∙◌, ap, is_some, not, length, nat_lt, slice_index_or, subst}
-use Rattle.std.proofs.Common.{sym, arith, ◌+◌, ◌++◌, replicate}
+use Rattle.std.proofs.Common.{sym, arith, ◌+◌, ◌-◌, ◌++◌, replicate}
 use Rattle.std.proofs.Common.{length-append}
 use Rattle.std.proofs.lemmas.Grind.{replicate_next}
 use Rattle.std.proofs.lemmas.Bool.{cond_both}
@@ -47,25 +47,32 @@ Stays s u = AreOfOneBoard s.bus u.bus
 
 -- ---- an answer leaves the board
 
+-- what follows a state of the same machine is of the same machine
+then_stays : (s t : State) (ps : List Piece) → Stays s t → Stays t (last_state t ps) → Stays s (last_state t ps)
+then_stays s t ps h rest = board_trans s.bus t.bus (last_state t ps).bus h rest
+
 run_stays_on : (k : Settings) (n : ℕ) (h : Option Hit) (s : State) → Stays s (last_state s (run_on k n h s))
 unfolding run_on
 run_stays_on k zero h s = board_refl s.bus
 run_stays_on k (suc n) h s =
     cond_both (ends_at (hit_before k h s) s) _ _ (λ (ps : List Piece). Stays s (last_state s ps))
     (λ e. board_refl s.bus)
-    (λ e. board_trans _ _ _ (step_board s) (run_stays_on k n (first_hit k (step s).events) (step s).state))
+    (λ e. then_stays s (step s).state (run_on k n (first_hit k (step s).events) (step s).state) (step_board s)
+    (run_stays_on k n (first_hit k (step s).events) (step s).state))
 
 run_stays : (k : Settings) (n : ℕ) (s : State) → Stays s (last_state s (run_pieces k n s))
 run_stays k n s =
     cond_both (is_some s.stop) _ _ (λ (ps : List Piece). Stays s (last_state s ps)) (λ e. board_refl s.bus)
-    (λ e. board_trans _ _ _ (step_board s) (run_stays_on k _ (first_hit k (step s).events) (step s).state))
+    (λ e. then_stays s (step s).state (run_on k (n - 1) (first_hit k (step s).events) (step s).state) (step_board s)
+    (run_stays_on k (n - 1) (first_hit k (step s).events) (step s).state))
 
 task_stays_on : (k : Settings) (n : ℕ) (s : State) → Stays s (last_state s (task_on k n s))
 unfolding task_on
 task_stays_on k zero s = board_refl s.bus
 task_stays_on k (suc n) s =
     cond_both (is_instruction_next s) _ _ (λ (ps : List Piece). Stays s (last_state s ps))
-    (λ e. board_trans _ _ _ (step_board s) (task_stays_on k n (step s).state)) (λ e. board_refl s.bus)
+    (λ e. then_stays s (step s).state (task_on k n (step s).state) (step_board s) (task_stays_on k n (step s).state))
+    (λ e. board_refl s.bus)
 
 task_stays : (k : Settings) (n : ℕ) (s : State) → Stays s (last_state s (task_pieces k n s))
 task_stays k n s =
@@ -87,14 +94,14 @@ edge_board s how k =
 
 back_by : (s : State) (slot : Slot) (b : Bool) → slot.is_saved ≡ b → AreOfOneBoard slot.state.bus s.bus
     → Stays s (back_piece s (saved_there slot)).state
-back_by s slot true e h = rw e (board_sym _ _ h)
+back_by s slot true e h = rw e (board_sym slot.state.bus s.bus h)
 back_by s slot false e h = rw e (board_refl s.bus)
 
 found_by : (slot : Slot) (b : Bool) (m : Bus) (s : State) → slot.is_saved ≡ b
     → AreOfOneBoard slot.state.bus m → saved_there slot ≡ Some s → AreOfOneBoard m s.bus
 found_by slot true m s is h e =
     let same : slot.state ≡ s = (let f : Some slot.state ≡ Some s = rw is at e in cc) in
-    subst (λ (u : State). AreOfOneBoard m u.bus) same (board_sym _ _ h)
+    subst (λ (u : State). AreOfOneBoard m u.bus) same (board_sym slot.state.bus m h)
 found_by slot false m s is h e = absurd (let f : None ≡ Some s = rw is at e in let w : ⊥ = cc in w)
 
 -- the slots after the first one
@@ -146,7 +153,8 @@ answer_stays k s slots asked room =
 -- ---- the slots after an answer
 
 moved : (slots : List Slot) (m k : Bus) → AreOfOneBoard m k → HaveRoom slots m → HaveRoom slots k
-moved slots m k h room = λ i d below. board_trans _ _ _ (room i d below) h
+moved slots m k h room =
+    λ i d below. board_trans (slice_index_or slots i d).state.bus m k (room i d below) h
 
 kept_room : (s : State) (slots : List Slot) (what : Option Change) → HaveRoom slots s.bus
     → HaveRoom (slots_after s slots what) s.bus
@@ -173,7 +181,8 @@ pub room_after : (k : Settings) (s new : State) (slots after : List Slot) (asked
     → new ≡ last_state s (answer s k (saved_in slots) asked) → HaveRoom after new.bus
 room_after k s new slots after asked room kept state =
     rw (kept, state)
-    (moved (slots_after s slots (change_of asked)) s.bus _ (answer_stays k s slots asked room)
+    (moved (slots_after s slots (change_of asked)) s.bus (last_state s (answer s k (saved_in slots) asked)).bus
+    (answer_stays k s slots asked room)
     (kept_room s slots (change_of asked) room))
 
 -- what is saved in them is what the definition saves

@@ -3,3 +3,5 @@ mod Naming
 mod Numbers
 mod Refusing
 mod SecondRam
+mod Devices
+mod Documents

@@ -1,7 +1,7 @@
 -- The first key of a board whose number is refused.
 use Rattle.std.proofs.Common.{◌≡◌, ℕ, Bool, true, ◌&&◌, nat_le, Result, Ok, Err, refl, sym, ◌∙◌, arith}
 use Rattle.std.proofs.lemmas.Bool.Decides.{nat_tests}
-use Rattle.board.specs.Texts.{where_ok}
+use Rattle.board.specs.Values.{where_ok}
 use Rattle.platform.specs.Boards.{is_interrupt_count}
 use Rattle.platform.specs.declared.error.BoardError.{BoardError}
 use Rattle.platform.specs.declared.exception.TheConstants.{MOST_INTERRUPTS}

@@ -1,7 +1,10 @@
 -- Why a value is refused, by its kind.
 use Rattle.std.proofs.Common.{◌≡◌, ℕ, ℤ, pos, negsuc, Bool, true, false, List, Option, Some, None, is_some, Ok, Err}
 use Rattle.std.proofs.Common.{arith}
-use Rattle.board.specs.Texts.{change, nmi, whole}
+use Rattle.devices.specs.declared.device.Stores.{Stores}
+use Rattle.board.specs.Devices.{stores_named}
+use Rattle.board.specs.Texts.{change, nmi}
+use Rattle.board.specs.Values.{whole}
 use Rattle.platform.specs.declared.error.BoardError.{BoardError}
 use Rattle.platform.specs.declared.error.BoardError.TheVariants.{WrongKind, OutOfRange}
 
@@ -37,6 +40,10 @@ no_boolean None error refused is = cc
 -- a word that names no change is out of range
 pub no_change : (line : ℕ) (name : List ℕ) (error : BoardError) → change line name ≡ Err error → error ≡ OutOfRange
 no_change line name error refused = grind arith
+
+-- likewise a word that names nothing that a store does
+pub no_stores : (name : List ℕ) (error : BoardError) → stores_named name ≡ Err error → error ≡ OutOfRange
+no_stores name error refused = grind arith
 
 pub ruleset integer_lemmas = (below_zero, no_integer, is_integer)
 

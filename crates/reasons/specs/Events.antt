@@ -2,7 +2,9 @@
 use Rattle.std.specs.Prelude.{ℕ, ◌+◌, Bool, true, false, if◌then◌else◌, List, codes, Option, Some, None, is_some}
 use Rattle.std.specs.Prelude.{Result, Ok, Err}
 use Rattle.toml.specs.Data.{Data, Items, no_items, item, Members, as_array, as_table, get_member}
-use Rattle.board.specs.Texts.{◌>>=◌, tables_at, is_table, script_in, timely_event}
+use Rattle.devices.specs.declared.device.Device.{Device}
+use Rattle.board.specs.Texts.{script_in, timely_event}
+use Rattle.board.specs.Values.{◌>>=◌, tables_at, is_table}
 use Rattle.platform.specs.Boards.{first_tick, most_events}
 use Rattle.platform.specs.declared.error.BoardError.{BoardError}
 use Rattle.platform.specs.declared.error.BoardError.TheVariants.{WrongKind}
@@ -10,9 +12,10 @@ use Rattle.platform.specs.declared.script.ScriptedEvent.{ScriptedEvent}
 use Rattle.reasons.specs.declared.events.EventProblem.{EventProblem}
 use Rattle.reasons.specs.Problems.{refusal_of}
 
--- the events of a document, on a board with this many lines, or the first refusal
-abbrev pub script_of : ℕ → Members → Result (List ScriptedEvent) BoardError
-script_of lines document = tables_at most_events (get_member (codes "event") document) >>= script_in lines first_tick
+-- the events of a document, on a board with this many lines and these devices, or the first refusal
+abbrev pub script_of : ℕ → List Device → Members → Result (List ScriptedEvent) BoardError
+script_of lines devices document =
+    tables_at most_events (get_member (codes "event") document) >>= script_in lines devices first_tick
 
 -- the number of the first item that isn't a table, where the first item has this number
 abbrev pub first_untabled : ℕ → Items → Option ℕ
@@ -53,10 +56,11 @@ refused_or number (Err error) later = Some (number, error)
 
 -- the first event that is refused, where the first event has this number and is to come no earlier than a tick: its
 -- number and the refusal
-unfoldable pub first_refused : ℕ → ℕ → ℕ → Items → Option (ℕ × BoardError)
-first_refused lines before number no_items = None
-first_refused lines before number (item value others) =
-    refused_or number (timely_event lines before value) (λ at. first_refused lines at (number + 1) others)
+unfoldable pub first_refused : ℕ → List Device → ℕ → ℕ → Items → Option (ℕ × BoardError)
+first_refused lines devices before number no_items = None
+first_refused lines devices before number (item value others) =
+    refused_or number (timely_event lines devices before value)
+    (λ at. first_refused lines devices at (number + 1) others)
 
 -- the number of an event that a message names, and the refusal that it explains
 abbrev pub refusal_in : EventProblem → ℕ × BoardError

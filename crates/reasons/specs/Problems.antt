@@ -1,9 +1,11 @@
 -- Which refusal of a board a problem explains, and which numbers the message for a key names.
-use Rattle.std.specs.Prelude.{◌≡◌, ◌⊎◌, ℕ, ◌+◌, ◌&&◌, Bool, true, false, nat_le, if◌then◌else◌, List, codes}
+use Rattle.std.specs.Prelude.{◌≡◌, ◌⊎◌, ℕ, ◌+◌, ◌&&◌, Bool, true, false, nat_le, nat_lt, if◌then◌else◌, List, codes}
 use Rattle.std.specs.Prelude.{Option, Some, None, is_some, Result, Ok, Err, IsOk}
 use Rattle.toml.specs.Data.{Members, as_integer, get_member}
 use Rattle.toml.specs.View.{view}
-use Rattle.board.specs.Texts.{◌>>=◌, change, is_second_base, number, number_or, where_ok, word}
+use Rattle.board.specs.Devices.{has_32_bits, is_device_base, is_device_bytes}
+use Rattle.board.specs.Texts.{change, is_second_base}
+use Rattle.board.specs.Values.{◌>>=◌, number, number_or, where_ok, word}
 use Rattle.platform.specs.Boards.{Numbers, default_regions, is_flash, is_interrupt_count, is_priority_bits}
 use Rattle.platform.specs.Boards.{is_region_count, is_second_size, is_size, is_whole_blocks}
 use Rattle.platform.specs.Map.{ram_base}
@@ -15,10 +17,12 @@ use Rattle.platform.specs.declared.error.BoardError.TheVariants.{UnknownKey}
 use Rattle.reasons.specs.declared.keys.Key.{Key}
 use Rattle.reasons.specs.declared.keys.Takes.{Takes}
 use Rattle.reasons.specs.declared.keys.Takes.TheVariants.{Integers, Blocks, RamSizes, FlashSizes, Regions, Tables}
-use Rattle.reasons.specs.declared.keys.Takes.TheVariants.{SecondBases, SecondSizes, Words}
+use Rattle.reasons.specs.declared.keys.Takes.TheVariants.{SecondBases, SecondSizes, DeviceBases, DeviceSizes, Bits}
+use Rattle.reasons.specs.declared.keys.Takes.TheVariants.{Places, Words}
 use Rattle.reasons.specs.declared.problem.Problem.{Problem}
 use Rattle.reasons.specs.declared.problem.Problem.TheVariants.{Missing, Value, Kind, Integer, Line, Count, Unknown}
-use Rattle.reasons.specs.declared.problem.Problem.TheVariants.{Misplaced, Order, FlashEnd, RamSpan}
+use Rattle.reasons.specs.declared.problem.Problem.TheVariants.{Misplaced, Order, FlashEnd, RamSpan, Device}
+use Rattle.reasons.specs.declared.problem.Problem.TheVariants.{Alone}
 
 -- the refusal that a problem explains
 abbrev pub refusal_of : Problem → BoardError
@@ -34,6 +38,8 @@ refusal_of (Misplaced name) = UnknownKey
 refusal_of (Order at before) = EventsOutOfOrder
 refusal_of (FlashEnd base size) = OutOfRange
 refusal_of (RamSpan base size) = OutOfRange
+refusal_of (Device fault) = OutOfRange
+refusal_of (Alone name other) = UnknownKey
 
 -- the key whose message it is, where it is the message of one key
 abbrev pub key_of : Problem → Option Key
@@ -48,6 +54,8 @@ key_of (Misplaced name) = None
 key_of (Order at before) = None
 key_of (FlashEnd base size) = None
 key_of (RamSpan base size) = None
+key_of (Device fault) = None
+key_of (Alone name other) = None
 
 -- the numbers that the message for a key names. That flash of a size may end too high is a problem of its own
 abbrev pub takes : Takes → ℕ → Bool
@@ -57,6 +65,10 @@ takes RamSizes n = is_size n
 takes FlashSizes n = is_size n
 takes SecondBases n = is_second_base n
 takes SecondSizes n = is_second_size n
+takes DeviceBases n = is_device_base n
+takes DeviceSizes n = is_device_bytes n
+takes Bits n = has_32_bits n
+takes Places n = nat_lt n 32
 takes Regions n = is_region_count n
 takes Tables n = false
 takes (Words words) n = false
@@ -85,6 +97,8 @@ EndsTooHigh base (Unknown name known) = ⊥
 EndsTooHigh base (Misplaced name) = ⊥
 EndsTooHigh base (Order at before) = ⊥
 EndsTooHigh base (RamSpan other size) = ⊥
+EndsTooHigh base (Device fault) = ⊥
+EndsTooHigh base (Alone name other) = ⊥
 
 -- a fact of a number that is refused; or a fact of what comes after one that is read
 abbrev pub IfRefused : Result ℕ BoardError → Type 0 → (ℕ → Type 0) → Type 0

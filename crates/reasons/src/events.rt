@@ -1,20 +1,25 @@
 //! Why the script of a board is refused: the event by its place in the file, and its problem.
 
-ghost use Rattle.std.specs.Prelude.{◌≡◌, ◌≤◌, ◌<◌, codes, map, nat_lt, option_map, IfOk};
+ghost use Rattle.std.specs.Prelude.{◌≡◌, ◌≤◌, ◌<◌, ◌^◌, codes, map, nat_lt, option_map, IfOk, Some};
 ghost use Rattle.toml.specs.Data.{get_member};
 ghost use Rattle.toml.specs.View.{items_view, table_view, view};
-ghost use Rattle.board.specs.Texts.{are_tables, interrupt_signal, nmi_signal, number, only, script_in, signal_in};
-ghost use Rattle.board.specs.Texts.{timely_event, where_ok};
+ghost use Rattle.board.specs.Texts.{device_signal, interrupt_signal, is_free_line, nmi_signal, poke_signal, script_in};
+ghost use Rattle.board.specs.Texts.{signal_in, timely_event};
+ghost use Rattle.board.specs.Values.{are_tables, number, only, where_ok};
 ghost use Rattle.reasons.specs.Events.{event_with, first_refused, first_untabled, first_with, has_key, of_tables};
 ghost use Rattle.reasons.specs.Events.{refusal_in, script_of};
 ghost use Rattle.reasons.specs.Problems.{Explained, Finds, Passes, change_in, tick_of};
 
+use crate::device_keys::{POKE, POKE_VALUE};
 use crate::keys::{AT, EVENT, EVENT_TABLE, Key, LINE_NAME, NMI, WHAT};
-use crate::problem::Problem;
+use crate::problem::{DeviceFault, Problem};
 use crate::settings::{check_number, unknown};
-use board::keys::{BOARD_KEYS, INTERRUPT_KEYS, NMI_KEYS, is_known};
+use board::keys::{BOARD_KEYS, INTERRUPT_KEYS, NMI_KEYS, POKE_KEYS, is_known};
 use board::ranges::FIRST_TICK;
-use board::{InterruptNumber, MOST_SCRIPT_EVENTS, change, find, nmi, number};
+use board::{
+    Device, InterruptNumber, MOST_SCRIPT_EVENTS, change, find, is_device_word, is_driven, nmi,
+    number,
+};
 use platform::exception::MOST_INTERRUPTS;
 use toml::{Table, Value};
 
@@ -26,11 +31,15 @@ pub struct EventProblem<'a> {
     pub problem: Problem<'a>,
 }
 
-/// Returns the first problem of the script of a board with this many lines.
+/// Returns the first problem of the script of a board with this many lines and these devices.
 #[tactic(auto, using(board::proofs::Scripts::count_is), unfolding(board::specs::Texts::script_in))]
-pub fn events_problem(document: &Table, lines: u64) -> Option<EventProblem<'_>>
+pub fn events_problem<'a>(
+    document: &'a Table,
+    lines: u64,
+    devices: &[Device],
+) -> Option<EventProblem<'a>>
     requires { lines ≤ MOST_INTERRUPTS }
-    ensures { Finds (option_map (λ p. p.problem) result) (script_of lines (table_view document.now)) }
+    ensures { Finds (option_map (λ p. p.problem) result) (script_of lines devices.now (table_view document.now)) }
 {
     let value = find(document, EVENT.name)?;
     let Some(values) = value.as_array() else {
@@ -49,7 +58,7 @@ pub fn events_problem(document: &Table, lines: u64) -> Option<EventProblem<'_>>
             problem: Problem::Count(EVENT, values.len()),
         });
     }
-    script_problem(values, lines)
+    script_problem(values, lines, devices)
 }
 
 /// Returns the number of the first event, from 1, that has a key.
@@ -98,16 +107,21 @@ pub fn tables_problem(values: &[Value], key: Key) -> Option<EventProblem<'_>>
     None
 }
 
-/// Returns the first problem of a list of tables, on a board with this many lines.
-fn script_problem(values: &[Value], lines: u64) -> Option<EventProblem<'_>>
+/// Returns the first problem of a list of tables, on a board with this many lines and these devices.
+fn script_problem<'a>(
+    values: &'a [Value],
+    lines: u64,
+    devices: &[Device],
+) -> Option<EventProblem<'a>>
     requires { lines ≤ MOST_INTERRUPTS }
-    ensures names { option_map refusal_in result ≡ first_refused lines FIRST_TICK 1 (items_view values.now) }
+    ensures names { option_map refusal_in result
+        ≡ first_refused lines devices.now FIRST_TICK 1 (items_view values.now) }
     ensures explains { Finds (option_map (λ p. p.problem) result)
-        (script_in lines FIRST_TICK (items_view values.now)) }
+        (script_in lines devices.now FIRST_TICK (items_view values.now)) }
 {
     let mut before = FIRST_TICK;
     'values: for (index, value) in values.iter().enumerate() {
-        match check_event(value, lines, before) {
+        match check_event(value, lines, devices, before) {
             Ok(at) => before = at,
             Err(problem) => {
                 return Some(EventProblem {
@@ -122,15 +136,20 @@ fn script_problem(values: &[Value], lines: u64) -> Option<EventProblem<'_>>
 
 /// Returns the tick of an event, or what is wrong with the event.
 #[tactic(auto, unfolding(board::specs::Texts::timely_event, board::specs::Texts::event_in))]
-fn check_event(value: &Value, lines: u64, before: u64) -> Result<u64, Problem<'_>>
+fn check_event<'a>(
+    value: &'a Value,
+    lines: u64,
+    devices: &[Device],
+    before: u64,
+) -> Result<u64, Problem<'a>>
     requires { lines ≤ MOST_INTERRUPTS }
-    ensures { Explained result (tick_of (timely_event lines before (view value.now))) }
+    ensures { Explained result (tick_of (timely_event lines devices.now before (view value.now))) }
 {
     let Some(fields) = value.as_table() else {
         return Err(Problem::Kind(EVENT_TABLE, value));
     };
     let at = check_number(fields, AT)?;
-    check_signal(fields, lines)?;
+    check_signal(fields, lines, devices)?;
     if at < before {
         return Err(Problem::Order(at, before));
     }
@@ -138,14 +157,60 @@ fn check_event(value: &Value, lines: u64, before: u64) -> Result<u64, Problem<'_
 }
 
 /// Checks the signal of an event, by whether it has `nmi`.
-fn check_signal(fields: &Table, lines: u64) -> Result<(), Problem<'_>>
+fn check_signal<'a>(fields: &'a Table, lines: u64, devices: &[Device]) -> Result<(), Problem<'a>>
     requires { lines ≤ MOST_INTERRUPTS }
     ensures { Passes result
-        (signal_in lines (table_view fields.now) (get_member (codes "nmi") (table_view fields.now))) }
+        (signal_in lines devices.now (table_view fields.now) (get_member (codes "nmi") (table_view fields.now))) }
 {
     match find(fields, NMI.name) {
         Some(value) => check_nmi(fields, value),
-        None => check_line(fields, lines),
+        None => check_device_signal(fields, lines, devices),
+    }
+}
+
+/// Checks the signal of an event without `nmi`, by whether it has `poke`.
+fn check_device_signal<'a>(
+    fields: &'a Table,
+    lines: u64,
+    devices: &[Device],
+) -> Result<(), Problem<'a>>
+    requires { lines ≤ MOST_INTERRUPTS }
+    ensures { Passes result
+        (device_signal lines devices.now (table_view fields.now) (get_member (codes "poke") (table_view fields.now))) }
+{
+    match find(fields, POKE.name) {
+        Some(value) => check_poke(fields, devices, value),
+        None => check_line(fields, lines, devices),
+    }
+}
+
+/// Checks an event that pokes a word of a device.
+#[tactic(auto, using(crate::proofs::Numbers::integer_lemmas), unfolding(board::specs::Texts::poke_signal))]
+fn check_poke<'a>(
+    fields: &'a Table,
+    devices: &[Device],
+    value: &'a Value,
+) -> Result<(), Problem<'a>>
+    ensures { Passes result (poke_signal devices.now (view value.now) (table_view fields.now)) }
+{
+    let address = check_address(value, POKE)?;
+    if !is_device_word(devices, address) {
+        return Err(Problem::Value(POKE, value));
+    }
+    check_number(fields, POKE_VALUE)?;
+    check_keys(fields, &POKE_KEYS, "at, poke and value")
+}
+
+/// Returns the address that a value is, or what is wrong with it.
+#[tactic(auto, using(crate::proofs::Numbers::below_zero, crate::proofs::Numbers::no_integer))]
+pub fn check_address(value: &Value, key: Key) -> Result<u64, Problem<'_>>
+    ensures read { Explained result (number (Some (view value.now))) }
+    ensures small { IfOk result (λ n. n < 2 ^ 63) }
+{
+    match number(Some(value)) {
+        Ok(address) => Ok(address),
+        Err(_) if value.is_integer() => Err(Problem::Value(key, value)),
+        Err(_) => Err(Problem::Integer(key, value)),
     }
 }
 
@@ -163,18 +228,35 @@ fn check_nmi<'a>(fields: &'a Table, value: &'a Value) -> Result<(), Problem<'a>>
 
 /// Checks an event that names a line of the board.
 #[tactic(auto, unfolding(board::specs::Texts::interrupt_signal))]
-fn check_line(fields: &Table, lines: u64) -> Result<(), Problem<'_>>
+fn check_line<'a>(fields: &'a Table, lines: u64, devices: &[Device]) -> Result<(), Problem<'a>>
     requires { lines ≤ MOST_INTERRUPTS }
-    ensures { Passes result (interrupt_signal lines (table_view fields.now)) }
+    ensures { Passes result (interrupt_signal lines devices.now (table_view fields.now)) }
 {
-    let line = check_line_number(fields, lines)?;
+    let line = check_free_line(fields, lines, devices)?;
     check_change(fields, InterruptNumber::new(line as u8))?;
     check_keys(fields, &INTERRUPT_KEYS, "at, line and what")
 }
 
-/// Returns the line that an event names, or what is wrong with it.
+/// Returns the line that an event names, which no device drives, or what is wrong with it.
+fn check_free_line<'a>(
+    fields: &'a Table,
+    lines: u64,
+    devices: &[Device],
+) -> Result<u64, Problem<'a>>
+    ensures read { Explained result
+        (where_ok (is_free_line lines devices.now) (number (get_member (codes "line") (table_view fields.now)))) }
+    ensures few { IfOk result (λ line. line < lines) }
+{
+    let line = check_line_number(fields, lines)?;
+    if is_driven(devices, line) {
+        return Err(Problem::Device(DeviceFault::Driven(line)));
+    }
+    Ok(line)
+}
+
+/// Returns the line that an event or a device names, or what is wrong with it.
 #[tactic(auto, using(crate::proofs::Numbers::integer_lemmas))]
-fn check_line_number(fields: &Table, lines: u64) -> Result<u64, Problem<'_>>
+pub fn check_line_number(fields: &Table, lines: u64) -> Result<u64, Problem<'_>>
     ensures read { Explained result
         (where_ok (λ n. nat_lt n lines) (number (get_member (codes "line") (table_view fields.now)))) }
     ensures few { IfOk result (λ line. line < lines) }

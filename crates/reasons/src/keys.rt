@@ -3,11 +3,14 @@
 ghost use Rattle.std.specs.Prelude.{◌≡◌};
 ghost use Rattle.reasons.specs.Problems.{takes};
 
+use board::device_ranges::{
+    LAST_WORD, MOST_DEVICE_BYTES, has_32_bits, is_device_base, is_device_bytes,
+};
 use board::ranges::{
     BLOCK, FIRST_TICK, LAST_BLOCK, LAST_TICK, LEAST_PRIORITY_BITS, MOST_BYTES, MOST_PRIORITY_BITS,
     MOST_SECOND_BYTES, is_second_base, is_second_size, is_size, is_whole_blocks,
 };
-use board::{MOST_SCRIPT_EVENTS, region_count};
+use board::{MOST_SCRIPT_EVENTS, PLACES, region_count};
 use platform::exception::MOST_INTERRUPTS;
 use platform::map::RAM_BASE;
 use std::fmt;
@@ -35,6 +38,14 @@ pub enum Takes {
     SecondBases,
     /// The sizes of a second RAM.
     SecondSizes,
+    /// The bases of a device.
+    DeviceBases,
+    /// The sizes of a device, and 4 where the key is missing.
+    DeviceSizes,
+    /// The numbers of 32 bits.
+    Bits,
+    /// The numbers of places by which bits follow others.
+    Places,
     /// 8 and 16, and 8 where the key is missing.
     Regions,
     /// A list of tables.
@@ -55,6 +66,10 @@ impl Takes {
             Takes::RamSizes | Takes::FlashSizes => is_size(number),
             Takes::SecondBases => is_second_base(number),
             Takes::SecondSizes => is_second_size(number),
+            Takes::DeviceBases => is_device_base(number),
+            Takes::DeviceSizes => is_device_bytes(number),
+            Takes::Bits => has_32_bits(number),
+            Takes::Places => number < PLACES,
             Takes::Regions => region_count(number).is_ok(),
             Takes::Tables | Takes::Words(_) => false,
         }
@@ -77,6 +92,13 @@ impl Display for Takes {
                 f,
                 "a multiple of {BLOCK} from {BLOCK} to {MOST_SECOND_BYTES}"
             ),
+            Takes::DeviceBases => write!(f, "a multiple of 4 from 0 to {LAST_WORD}"),
+            Takes::DeviceSizes => write!(
+                f,
+                "a multiple of 4 from 4 to {MOST_DEVICE_BYTES} (4 where the key is missing)"
+            ),
+            Takes::Bits => write!(f, "an integer from 0 to {}", u32::MAX),
+            Takes::Places => write!(f, "an integer from 0 to {}", PLACES - 1),
             Takes::Regions => write!(f, "8 or 16 (8 where the key is missing)"),
             Takes::Tables => write!(
                 f,
@@ -89,7 +111,7 @@ impl Display for Takes {
 
 /// The keys of a board, as a message lists them.
 pub const BOARD_KEY_NAMES: &str =
-    "flash_base, flash_size, ram_size, priority_bits, lines, regions, ram and event";
+    "flash_base, flash_size, ram_size, priority_bits, lines, regions, ram, device and event";
 
 pub const FLASH_BASE: Key = Key {
     name: "flash_base",
@@ -159,7 +181,7 @@ pub const AT: Key = Key {
     takes: Takes::Integers(FIRST_TICK, LAST_TICK),
 };
 
-/// The key of the line of an event: what it takes depends on the board.
+/// The key of the line of an event or of a device: what it takes depends on the board.
 pub const LINE_NAME: &str = "line";
 
 pub const WHAT: Key = Key {

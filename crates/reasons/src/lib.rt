@@ -1,6 +1,10 @@
 //! Why a file is refused, for a person: the field or the key, its value, and what it takes.
 #![tactic(auto)]
 
+mod device_keys;
+mod device_lines;
+mod device_tables;
+mod device_values;
 mod events;
 mod header;
 mod image;

@@ -2,6 +2,7 @@
 
 use crate::keys::Key;
 use crate::text::write_key;
+use board::device_ranges::{MOST_BYTES_OF_DEVICES, PPB_BASE, PPB_SIZE, SPACE};
 use messages::Quoted;
 use platform::map::RAM_BASE;
 use std::io;
@@ -42,6 +43,27 @@ pub enum Problem<'a> {
     FlashEnd(u64, u64),
     /// A second RAM at this base, with this size, has bytes where there can't be any, or bytes of flash or RAM.
     RamSpan(u64, u64),
+    /// Values of a device don't go together, or with the board.
+    Device(DeviceFault),
+    /// A key is without the other key that it goes with.
+    Alone(&'static str, &'static str),
+}
+
+/// Which values of a device don't go together, or with the board.
+#[derive(Clone, Copy)]
+pub enum DeviceFault {
+    /// A device at this base, with this size, ends past the address space, or has bytes of memory or of the PPB.
+    Span(u64, u64),
+    /// The devices before have this many bytes, and with this size there would be too many.
+    Bytes(u64, u64),
+    /// `ones` and `zeros` have a bit in common.
+    Bits(u32, u32),
+    /// A device drives this line.
+    Driven(u64),
+    /// A device with this line counts.
+    Counting(u64),
+    /// The first word of a device with this line is that of a device before it.
+    Hidden(u64),
 }
 
 /// A part of a board.
@@ -51,6 +73,8 @@ pub enum Part {
     Board,
     /// The table of the second RAM.
     SecondRam,
+    /// The device with this number, from 1.
+    Device(usize),
     /// The event with this number, from 1.
     Event(usize),
 }
@@ -94,6 +118,39 @@ pub fn write_problem<W: Write>(out: &mut W, problem: &Problem<'_>) -> io::Result
             "flash_base is {base} and flash_size {size}: their sum is at most {RAM_BASE}"
         ),
         Problem::RamSpan(base, size) => write_span(out, base, size),
+        Problem::Device(fault) => write_fault(out, fault),
+        Problem::Alone(name, other) => {
+            writeln!(out, "{name} is no key here: it goes with {other}")
+        }
+    }
+}
+
+/// Writes which values of a device don't go together, or with the board.
+fn write_fault<W: Write>(out: &mut W, fault: DeviceFault) -> io::Result<()> {
+    match fault {
+        DeviceFault::Span(base, size) => writeln!(
+            out,
+            "base is {base} and size {size}: a device ends at {SPACE} or below, and has no byte of flash, of a RAM or \
+             of the {PPB_SIZE} bytes of the Private Peripheral Bus at {PPB_BASE}"
+        ),
+        DeviceFault::Bytes(before, size) => writeln!(
+            out,
+            "size is {size}, and the devices before it have {before} bytes: the devices of a board have \
+             {MOST_BYTES_OF_DEVICES} at most"
+        ),
+        DeviceFault::Bits(ones, zeros) => writeln!(
+            out,
+            "ones is {ones} and zeros {zeros}: no bit is in both"
+        ),
+        DeviceFault::Driven(line) => writeln!(out, "line is {line}: a device drives it"),
+        DeviceFault::Counting(line) => writeln!(
+            out,
+            "line is {line}, and counts is true: a device that counts has no line"
+        ),
+        DeviceFault::Hidden(line) => writeln!(
+            out,
+            "line is {line}: the word at base is that of a device before it, and a line needs a word of its own"
+        ),
     }
 }
 

@@ -3,7 +3,8 @@
 ghost use Rattle.std.specs.Prelude.{◌≡◌, ◌<◌, ◌^◌, codes, option_map, IfOk};
 ghost use Rattle.toml.specs.Data.{get_member};
 ghost use Rattle.toml.specs.View.{table_view};
-ghost use Rattle.board.specs.Texts.{number, second_ram_in, where_ok, with_second_ram};
+ghost use Rattle.board.specs.Texts.{second_ram_in, with_second_ram};
+ghost use Rattle.board.specs.Values.{number, where_ok};
 ghost use Rattle.platform.specs.Boards.{is_second_ram, numbers_of};
 ghost use Rattle.reasons.specs.Problems.{Explained, Finds, Passes};
 

@@ -4,11 +4,14 @@ ghost use Rattle.std.specs.Prelude.{◌≡◌, ◌⊎◌, ◌<◌, ◌≤◌, �
 ghost use Rattle.std.specs.Prelude.{option_map, IfErr, IfOk};
 ghost use Rattle.toml.specs.Data.{get_member};
 ghost use Rattle.toml.specs.View.{table_view};
-ghost use Rattle.board.specs.Texts.{board_in, has_only, number, number_or, numbers_in, where_ok};
+ghost use Rattle.board.specs.Texts.{board_in, numbers_in};
+ghost use Rattle.board.specs.Values.{has_only, number, number_or, where_ok};
 ghost use Rattle.platform.specs.Boards.{default_regions, is_flash, is_region_count, is_size};
+ghost use Rattle.reasons.specs.Events.{script_of};
 ghost use Rattle.reasons.specs.Problems.{EndsTooHigh, Explained, Finds, Names, NamesFirst, Reads, Shows, key_of};
 ghost use Rattle.reasons.specs.Problems.{lines_of, takes};
 
+use crate::device_tables::devices_problem;
 use crate::events::{EventProblem, event_with, events_problem};
 use crate::keys::{
     BOARD_KEY_NAMES, FLASH_BASE, FLASH_SIZE, Key, LINES, PRIORITY_BITS, RAM_SIZE, REGIONS,
@@ -17,7 +20,9 @@ use crate::problem::{Part, PartProblem, Problem, write_problem};
 use crate::second_ram::{of_board, second_ram_problem};
 use board::keys::{BOARD_KEYS, is_known};
 use board::ranges::is_flash;
-use board::{DEFAULT_REGIONS, find, layout_of, number};
+use board::{
+    DEFAULT_REGIONS, Device, Layout, devices_at, find, layout_of, number, with_second_ram,
+};
 use platform::error::BoardError;
 use platform::exception::MOST_INTERRUPTS;
 use std::alloc::Global;
@@ -66,6 +71,10 @@ fn write_document_reason<W: Write>(
             write!(out, "ram: ")?;
             write_problem(out, &problem)
         }
+        Part::Device(number) => {
+            write!(out, "device {number}: ")?;
+            write_problem(out, &problem)
+        }
         Part::Event(number) => {
             write!(out, "event {number}: ")?;
             write_problem(out, &problem)
@@ -74,7 +83,7 @@ fn write_document_reason<W: Write>(
 }
 
 /// Returns the first problem of a document, if it isn't a board.
-#[tactic(auto, using(crate::proofs::SecondRam::document_lemmas), unfolding(board::specs::Texts::board_in))]
+#[tactic(auto, unfolding(board::specs::Texts::board_in))]
 fn document_problem(document: &Table) -> Option<PartProblem<'_>>
     ensures { Finds (option_map (λ p. p.problem) result) (board_in (table_view document.now)) }
 {
@@ -90,7 +99,25 @@ fn document_problem(document: &Table) -> Option<PartProblem<'_>>
     if let Some(problem) = second_ram_problem(document, &layout) {
         return Some(problem);
     }
-    let found = events_problem(document, u64::from(layout.interrupts))?;
+    let Ok(layout) = with_second_ram(layout, document) else {
+        return None;
+    };
+    match devices_at(&layout, document) {
+        Ok(found) => script_part(document, &layout, found.devices()),
+        Err(_) => devices_problem(document, &layout),
+    }
+}
+
+/// Returns the first problem of the script of a board with this layout and these devices, as one of a part of the board.
+fn script_part<'a>(
+    document: &'a Table,
+    layout: &Layout,
+    devices: &[Device],
+) -> Option<PartProblem<'a>>
+    ensures { Finds (option_map (λ p. p.problem) result)
+        (script_of layout.now.interrupts devices.now (table_view document.now)) }
+{
+    let found = events_problem(document, u64::from(layout.interrupts), devices)?;
     Some(of_event(found))
 }
 
@@ -124,7 +151,9 @@ fn write_misplaced<W: Write>(
         | Problem::Misplaced(_)
         | Problem::Order(_, _)
         | Problem::FlashEnd(_, _)
-        | Problem::RamSpan(_, _) => return Ok(()),
+        | Problem::RamSpan(_, _)
+        | Problem::Device(_)
+        | Problem::Alone(_, _) => return Ok(()),
     };
     if let Some(number) = event_with(document, missing) {
         return writeln!(
@@ -202,6 +231,20 @@ pub fn check_number<'a>(table: &'a Table, key: Key) -> Result<u64, Problem<'a>>
         return Err(Problem::Value(key, value));
     }
     Ok(number)
+}
+
+/// Returns the number at a key that may be missing, which then is a default, or what is wrong with it.
+pub fn check_number_or<'a>(table: &'a Table, key: Key, default: u64) -> Result<u64, Problem<'a>>
+    requires taken { takes key.takes default ≡ true }
+    requires small { default < 2 ^ 63 }
+    ensures read { Explained result
+        (where_ok (takes key.takes) (number_or default (get_member key.name.now (table_view table.now)))) }
+    ensures small { IfOk result (λ n. n < 2 ^ 63) }
+{
+    if find(table, key.name).is_none() {
+        return Ok(default);
+    }
+    check_number(table, key)
 }
 
 /// Returns the size of flash at a base, or what is wrong with it.

@@ -1,7 +1,7 @@
 mod accesses;
 mod boards;
 mod device_tables;
-mod devices;
+mod device_values;
 mod images;
 mod intervals;
 mod levels;

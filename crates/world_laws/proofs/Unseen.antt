@@ -17,7 +17,7 @@ use Rattle.platform.specs.Map.{ram_base}
 use Rattle.platform.specs.Memory.{Agree, Block, BlocksAgree, Memory}
 use Rattle.access_map.specs.declared.world.Place.{Place}
 use Rattle.reference.specs.State.{State}
-use Rattle.task_laws.specs.Sight.{Same, is_seen}
+use Rattle.task_laws.specs.Sight.{is_seen}
 use Rattle.world_laws.specs.WorldLaw.{AgreeButRams, HasRamsOf, UnseenLaw, may_write}
 use Rattle.world_run.specs.WorldRuns.{world_of}
 

@@ -1,17 +1,16 @@
 -- The worlds after one step more, and after a stop.
-use Rattle.std.proofs.Common.{◌≡◌, ◌⊎◌, inl, inr, ℕ, zero, suc, ◌+◌, ◌-◌, ◌≤◌, Bool, true, false, not, ◌&&◌}
-use Rattle.std.proofs.Common.{if◌then◌else◌, Option, Some, None, IsSome, refl, sym, ◌∙◌, ap, add-one, add-zero, arith}
+use Rattle.std.proofs.Common.{◌≡◌, ◌⊎◌, inl, inr, ℕ, zero, suc, ◌+◌, ◌-◌, ◌≤◌, false}
+use Rattle.std.proofs.Common.{Option, Some, None, IsSome, refl, sym, ◌∙◌, ap, add-one, add-zero, arith}
 use Rattle.std.proofs.Math.Bool.{and-false}
-use Rattle.instruction_set.specs.Registers.{is_handler}
 use Rattle.platform.specs.declared.stop.Stop.{Stop}
 use Rattle.reference.specs.Run.{after}
 use Rattle.reference.specs.State.{State}
 use Rattle.reference.specs.Step.{step}
 use Rattle.machine.proofs.Running.{after_more, after_stop, all_made}
 use Rattle.machine.specs.Whole.{Whole}
-use Rattle.access_map.specs.Counting.{Worlds, counted}
+use Rattle.access_map.specs.Counting.{Worlds}
 use Rattle.task_laws.specs.Foresight.{is_instruction, is_instruction_next, kind_unless_stopped}
-use Rattle.world_run.specs.WorldRuns.{next_tick, runs_in_world, with_step, world_of, worlds_after}
+use Rattle.world_run.specs.WorldRuns.{runs_in_world, with_step, worlds_after}
 
 pub none_made : (m : Whole) → m ≡ record m { state = after 0 m.state }
 unfolding after

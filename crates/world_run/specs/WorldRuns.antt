@@ -1,5 +1,5 @@
 -- The worlds of a run: the steps that run in each of them are counted (profile).
-use Rattle.std.specs.Prelude.{ℕ, zero, suc, Bool, true, false, not, ◌&&◌, if◌then◌else◌}
+use Rattle.std.specs.Prelude.{ℕ, zero, suc, Bool, not, ◌&&◌, if◌then◌else◌}
 use Rattle.access_map.specs.Counting.{Worlds, counted}
 use Rattle.access_map.specs.declared.world.World.{World}
 use Rattle.instruction_set.specs.Registers.{is_handler}

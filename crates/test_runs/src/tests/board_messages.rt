@@ -369,14 +369,14 @@ with \"a\\u001B[31m\\u007F\\u009B \\\"\\\\é\" = 1
 ends 3
 err marm: board 6 UnknownKey
 err   board.toml: \"a\\u001B[31m\\u007F\\u009B \\\"\\\\é\" is no key here: the keys are flash_base, flash_size, \
-ram_size, priority_bits, lines, regions, ram and event
+ram_size, priority_bits, lines, regions, ram, device and event
 
 a key with what a display hides: an override of direction, a separator, a soft hyphen, a mark of bytes
 with \"a\\u202Eb\\u2028c\\u00ADd\\uFEFFe\" = 1
 ends 3
 err marm: board 6 UnknownKey
 err   board.toml: \"a\\u202Eb\\u2028c\\u00ADd\\uFEFFe\" is no key here: the keys are flash_base, flash_size, ram_size, \
-priority_bits, lines, regions, ram and event
+priority_bits, lines, regions, ram, device and event
 
 a string with an override of direction
 with [[event]]

@@ -376,7 +376,8 @@ board flash_size = 4096
 ends 3
 err marm: board 2 MissingKey
 err   board.toml: the key flash_base is missing: it takes a multiple of 1024, at least 0
-err   flash-base is no key here: the keys are flash_base, flash_size, ram_size, priority_bits, lines, regions, ram and event
+err   flash-base is no key here: the keys are flash_base, flash_size, ram_size, priority_bits, lines, regions, ram, \
+device and event
 
 the keys are in a table
 board [board]
@@ -384,7 +385,8 @@ board flash_base = 0
 ends 3
 err marm: board 2 MissingKey
 err   board.toml: the key flash_base is missing: it takes a multiple of 1024, at least 0
-err   board is no key here: the keys are flash_base, flash_size, ram_size, priority_bits, lines, regions, ram and event
+err   board is no key here: the keys are flash_base, flash_size, ram_size, priority_bits, lines, regions, ram, \
+device and event
 
 a word in place of a number
 board flash_base = \"0\"
@@ -433,7 +435,7 @@ board rom_size = 0
 ends 3
 err marm: board 6 UnknownKey
 err   board.toml: rom_size is no key here: the keys are flash_base, flash_size, ram_size, priority_bits, lines, \
-regions, ram and event
+regions, ram, device and event
 
 32 lines, of which the last one rises after the end
 board flash_base = 0

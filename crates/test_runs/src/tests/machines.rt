@@ -1,5 +1,9 @@
 //! Machines of the small board, with a script and with values in their places.
 
+use super::cut::{Text, push_line};
+use super::files::SMALL;
+use board::read_board;
+use devices::{Device, Poke};
 use elf::load;
 use machine::{
     Board, Decider, DueTicks, InterruptNumber, KeptCode, Layout, Levels, Machine, Place,
@@ -9,6 +13,7 @@ use platform::board::SecondRam;
 use platform::exception::MOST_INTERRUPTS;
 use platform::mpu::MOST_REGIONS;
 use std::alloc::{AllocError, Global};
+use std::str;
 use test_tables::{byte_at, number_at, word};
 
 /// An ELF file without program headers: all of flash is 0xFF. Its lines are e_ident, then the fields up to e_entry, up
@@ -36,11 +41,15 @@ fn signal(line: &str) -> Option<Signal> {
         "rise" => Some(Signal::Rise(interrupt_number(line)?)),
         "fall" => Some(Signal::Fall(interrupt_number(line)?)),
         "pulse" => Some(Signal::Pulse(interrupt_number(line)?)),
+        "poke" => Some(Signal::Poke(Poke {
+            address: number_at(line, 3)?,
+            value: number_at(line, 4)?,
+        })),
         _ => None,
     }
 }
 
-/// The event of a line `event TICK SIGNAL LINE`.
+/// The event of a line `event TICK SIGNAL LINE`, or `event TICK poke ADDRESS VALUE`.
 pub(super) fn event(line: &str) -> Option<ScriptedEvent> {
     if word(line, 0) != "event" {
         return None;
@@ -124,13 +133,28 @@ fn layout(text: &str) -> Layout {
     SMALL_BOARD
 }
 
-/// The small board with the events and the numbers of these lines.
-pub(super) fn small_board(alloc: Global, text: &str) -> Result<Board, AllocError> {
-    let events = script(alloc, text)?;
-    Ok(Board {
+/// The devices of these lines, which have their tables as a board's file has them.
+fn devices(alloc: Global, text: &str) -> Option<Vec<Device>> {
+    let mut file = Text::new();
+    file.try_extend_from_slice(SMALL.as_bytes()).ok()?;
+    push_line(&mut file, "device = [")?;
+    'lines: for line in text.lines() {
+        if let Some(table) = line.strip_prefix("device ") {
+            push_line(&mut file, table)?;
+            push_line(&mut file, ",")?;
+        }
+    }
+    push_line(&mut file, "]")?;
+    let board = read_board(alloc, str::from_utf8(file.as_slice()).ok()?).ok()?;
+    Some(board.devices)
+}
+
+/// The small board with the events, the numbers and the devices of these lines.
+pub(super) fn small_board(alloc: Global, text: &str) -> Option<Board> {
+    Some(Board {
         layout: layout(text),
-        events,
-        devices: Vec::new(alloc),
+        events: script(alloc, text).ok()?,
+        devices: devices(alloc, text)?,
     })
 }
 
@@ -151,7 +175,7 @@ pub(super) fn scripted<D: Decider, C: KeptCode, L: Levels, U: DueTicks>(
     text: &str,
 ) -> Option<Machine<D, C, L, U>> {
     let image = load(&NO_SEGMENTS).ok()?;
-    let board = small_board(alloc, text).ok()?;
+    let board = small_board(alloc, text)?;
     Machine::new(alloc, &image, &board).ok()
 }
 

@@ -59,7 +59,7 @@ fn does_stop<D: Decider, C: KeptCode, L: Levels, U: DueTicks>(
     }
     let bytes = file.bytes()?;
     let image = load(bytes.as_slice()).ok()?;
-    let board = small_board(alloc, "").ok()?;
+    let board = small_board(alloc, "")?;
     let mut machine: Machine<D, C, L, U> = Machine::new(alloc, &image, &board).ok()?;
     let mut out = Cut::whole();
     let _ = run(&mut machine, 10, &mut out).ok()?;

@@ -5,6 +5,8 @@
 //! |---|---|
 //! | `event TICK SIGNAL LINE` | the script has this event: `rise`, `fall`, `pulse`, or `nmi`, which has no line |
 //! | `board LINES REGIONS` | how many lines and regions the board has, where it isn't 8 and 8 |
+//! | `event TICK poke ADDRESS VALUE` | the script has this poke |
+//! | `device` and a table | the board has this device; the table is that of a board's file |
 //! | `second ram` | the board has a second RAM too, of 8 KiB at 0x10000000 |
 //! | `vectors ADDRESS` | the word is placed at each entry of the vector table, from that of NMI to that of line 7 |
 //! | `word ADDRESS VALUE` | a word is placed |
@@ -16,6 +18,7 @@
 //! | `trace` and a line | a line of what all the steps write |
 //! | `after reg REGISTER VALUE` | what the register holds now: R0 to R12 by number, others by name |
 //! | `after byte ADDRESS VALUE` | the byte there now, or `none` |
+//! | `after shown ADDRESS VALUE` | the word that a debugger shows there now, also of a device, or `none` |
 //! | `after region NUMBER RBAR RASR` | what the region holds now, or `none` |
 
 use super::cut::{Cut, Text, push_line, run, run_selected, run_task};
@@ -106,6 +109,7 @@ impl<D: Decider, C: KeptCode, L: Levels, U: DueTicks> Run<D, C, L, U> {
             "refused" => self.refuses(rest),
             "event" => Some(event(line).is_some()),
             "board" => Some(byte_at(line, 1).is_some() && byte_at(line, 2).is_some()),
+            "device" => Some(rest.starts_with('{')),
             "second" => Some(rest == "ram"),
             "vectors" => Some(place_vectors(&mut self.machine, number_at(line, 1)?).is_ok()),
             "after" => holds(&self.machine, rest),
@@ -171,6 +175,7 @@ fn holds<D: Decider, C: KeptCode, L: Levels, U: DueTicks>(
     match word(seen, 0) {
         "reg" => Some(register(&machine.regs(), word(seen, 1))? == number_at(seen, 2)?),
         "byte" => holds_byte(machine, seen),
+        "shown" => holds_shown(machine, seen),
         "region" => holds_region(machine, seen),
         _ => None,
     }
@@ -199,6 +204,30 @@ pub(super) fn holds_byte<D: Decider, C: KeptCode, L: Levels, U: DueTicks>(
 ) -> Option<bool> {
     let held = machine.byte(number_at(seen, 1)?);
     Some(held == byte_at(seen, 2) && held.is_none() == (word(seen, 2) == "none"))
+}
+
+/// Returns whether a debugger shows what `shown ADDRESS VALUE` says.
+fn holds_shown<D: Decider, C: KeptCode, L: Levels, U: DueTicks>(
+    machine: &Machine<D, C, L, U>,
+    seen: &str,
+) -> Option<bool> {
+    match shown(machine, number_at(seen, 1)?) {
+        Some(held) => Some(held == number_at(seen, 2)?),
+        None => Some(word(seen, 2) == "none"),
+    }
+}
+
+/// The word that a debugger shows at an address, if memory or a device has all of it.
+fn shown<D: Decider, C: KeptCode, L: Levels, U: DueTicks>(
+    machine: &Machine<D, C, L, U>,
+    address: u32,
+) -> Option<u32> {
+    Some(u32::from_le_bytes([
+        machine.shown(address)?,
+        machine.shown(address.wrapping_add(1))?,
+        machine.shown(address.wrapping_add(2))?,
+        machine.shown(address.wrapping_add(3))?,
+    ]))
 }
 
 /// Returns whether a region holds what `region NUMBER RBAR RASR` says.

@@ -523,7 +523,7 @@ fn answers<D: Decider, C: KeptCode, L: Levels, U: DueTicks>(
             machine.place(value).ok()?;
         }
     }
-    let layout = small_board(alloc, text).ok()?.layout;
+    let layout = small_board(alloc, text)?.layout;
     let input = lines_of(text, "in ")?;
     let wanted = lines_of(text, "out ")?;
     let Ok(slots) = Slots::new(alloc, slots_of(text), &machine) else {

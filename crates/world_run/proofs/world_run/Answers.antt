@@ -1,7 +1,6 @@
-use Rattle.std.proofs.Common.{◌≡◌, ◌⊎◌, inl, inr, ◌∙◌, sym, ap, arith, IsSome, is_some, false}
+use Rattle.std.proofs.Common.{◌≡◌, ◌⊎◌, inl, inr, ◌∙◌, sym, ap, arith, IsSome}
 use Rattle.machine.proofs.Running.{ends_so}
 use Rattle.machine.specs.Whole.{Whole}
-use Rattle.access_map.specs.Counting.{Worlds}
 use Rattle.world_run.specs.Seen.{Counting}
 use Rattle.world_run.proofs.Counted.{all_counted, counted_on, machine_on, none_counted, none_made, whole_made}
 use Rattle.world_run.proofs.world_run.Goals as goal

@@ -1,6 +1,6 @@
 use Rattle.std.proofs.Common.{◌≡◌, ◌+◌, drop}
 use Rattle.toml.specs.View.{items_view}
-use Rattle.board.specs.Texts.{are_tables}
+use Rattle.board.specs.Values.{are_tables}
 use Rattle.reasons.specs.Events.{first_untabled}
 use Rattle.reasons.proofs.events.tables_problem.Given as goal
 

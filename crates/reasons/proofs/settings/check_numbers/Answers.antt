@@ -1,6 +1,7 @@
 use Rattle.std.proofs.Common.{Err, codes, refl}
 use Rattle.std.proofs.lemmas.Result.{err_from_is_err_and}
-use Rattle.board.specs.Texts.{number, numbers_in, where_ok}
+use Rattle.board.specs.Texts.{numbers_in}
+use Rattle.board.specs.Values.{number, where_ok}
 use Rattle.reasons.proofs.Naming.{in_lines, lines_read, read_here, refused_here}
 use Rattle.reasons.specs.Problems.{NamesFirst, refusal_of}
 use Rattle.platform.specs.Boards.{is_interrupt_count}

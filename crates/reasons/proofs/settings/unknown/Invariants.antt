@@ -1,6 +1,6 @@
 use Rattle.std.proofs.Common.{◌≡◌, map}
 use Rattle.toml.specs.View.{members_view}
-use Rattle.board.specs.Texts.{has_only}
+use Rattle.board.specs.Values.{has_only}
 use Rattle.reasons.proofs.settings.unknown.Given as goal
 
 -- all keys are known just where those that are left are

@@ -4,4 +4,5 @@ use Rattle.debugger.proofs.slots.Slots.go_back.Goals as goal
 
 pub take_back-requires : goal.take_back-requires
 take_back-requires g c =
-    found_fits _ _ _ _ c.requires (sym c.saved.ensures ∙ ap (option_map (λ kept. kept.now)) c.in-Some.is)
+    found_fits _ _ c.args.machine.now.state.bus _ c.requires
+    (sym c.saved.ensures ∙ ap (option_map (λ kept. kept.now)) c.in-Some.is)
