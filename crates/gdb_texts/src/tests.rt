@@ -1,8 +1,11 @@
 //! Rows of recorded sessions with gdb 13.1, and of GDB's manual.
 
+ghost use Rattle.std.specs.Prelude.{◌≡◌, ◌+◌, ◌%◌, ◌^◌, ◌≤◌};
+
 use crate::*;
 use arrayvec::ArrayVec;
 use debugger_commands::{Condition, LineError, LineSelection};
+use devices::{Device, Stores};
 use instruction_set::size::Size;
 use platform::access::{Access, Cause, Decision, Kind, Rule};
 use platform::board::SMALL_BOARD;
@@ -343,6 +346,55 @@ fn memory_is_described(rt: HostRuntime) -> Result<(), Fail> {
     let rom = "<memory type=\"rom\" start=\"0x0\" length=\"0x1000\"/>\n";
     assert!(rt; map.len() == 390);
     assert!(rt; map.as_slice()[157..].starts_with(rom.as_bytes()));
+    Ok(())
+}
+
+/// Returns a device of words that keep what is stored.
+fn device(base: u32, size: u32) -> Device
+    requires base { base % 4 ≡ 0 }
+    requires size { size % 4 ≡ 0 }
+    requires within { base + size ≤ 2 ^ 32 }
+{
+    Device {
+        base,
+        size,
+        start: 0,
+        ones: 0,
+        zeros: 0,
+        stores: Stores::Kept,
+        follows: 0,
+        by: 1,
+        of: None,
+        counts: false,
+        console: false,
+        load_poke: None,
+        store_poke: None,
+        line: None,
+    }
+}
+
+/// The end of the map of the small board with three devices, of which two touch and one overlaps the device window.
+const DEVICES_MAP: &str = "\
+<memory type=\"ram\" start=\"0x20000000\" length=\"0x2000\"/>
+<memory type=\"ram\" start=\"0x40000000\" length=\"0x1800\"/>
+<memory type=\"ram\" start=\"0x40021000\" length=\"0x404\"/>
+<memory type=\"ram\" start=\"0xe0000000\" length=\"0x100000\"/>
+</memory-map>
+";
+
+#[test]
+fn devices_are_described(rt: HostRuntime) -> Result<(), Fail> {
+    let devices = [
+        device(0x4002_1000, 0x400),
+        device(0x4000_0800, 0x1000),
+        device(0x4002_1400, 4),
+    ];
+    let mut map: ArrayVec<u8, 17_408> = ArrayVec::new();
+    put_memory_map(&mut map, &SMALL_BOARD, &devices);
+    assert!(rt; map.as_slice().ends_with(DEVICES_MAP.as_bytes()));
+    let mut page: ArrayVec<u8, 400> = ArrayVec::new();
+    put_region_info(&mut page, &SMALL_BOARD, &devices, 0x4002_1402);
+    assert!(rt; page.as_slice() == "start:40021000;size:404;permissions:rw;".as_bytes());
     Ok(())
 }
 
