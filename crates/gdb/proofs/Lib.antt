@@ -3,3 +3,4 @@ pub mod Showing
 mod Slicing
 mod Telling
 mod Turning
+mod Searching

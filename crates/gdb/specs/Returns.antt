@@ -75,7 +75,7 @@ abbrev pub return : Settings → Points → Features → Past → Search → Sta
 return k points features past search s =
     if search.is_interrupted then returned_at k points features past Interrupted [] s
     else returned_to k points features past search.quest (low_of features search.quest.end) s
-        (place_back search.quest points k (low_of features search.quest.end) s past.marks)
+    (place_back search.quest points k (low_of features search.quest.end) s past.marks)
 
 -- ---- what a call that took such a turn leaves
 

@@ -104,11 +104,16 @@ is_of_step reason.Fault = true
 is_of_step reason.Entered = true
 is_of_step reason.Interrupted = false
 
+-- the events of the last one of some steps from a mark, where a run ends for what happened in it
+abbrev pub events_for : StopReason → State → ℕ → List Event
+events_for why m zero = []
+events_for why m (suc n) = if is_of_step why then (step (after n m)).events else []
+
 abbrev pub place_of : List State → State → Found → Place
 place_of marks m found = record {
   state = after found.steps m;
   reason = found.reason;
-  events = if is_of_step found.reason then (step (after (found.steps - 1) m)).events else [];
+  events = events_for found.reason m found.steps;
   marks = marks;
 }
 
@@ -133,4 +138,4 @@ place_back q points k low oldest [] = Some (begins oldest)
 place_back q points k low oldest (m ∷ marks) =
     if nat_lt q.end (tick_of m) then place_back q points k low m marks
     else place_or (m ∷ marks) m (found_from q points k low m)
-        (if nat_le low (tick_of m) then place_back (before_mark q m) points k low m marks else None)
+    (if nat_le low (tick_of m) then place_back (before_mark q m) points k low m marks else None)

@@ -1,11 +1,17 @@
 //! Turns of going back: up to a question to GDB, or to a place in the past.
 
-ghost use Rattle.std.specs.Prelude.{◌≡◌, ◌-◌, [], IfOk, drop, length, slice_index_or};
+ghost use Rattle.std.specs.Prelude.{◌≡◌, ◌-◌, ◌<◌, [], false, true, IfOk, OnOk, None, drop, length, slice_index_or};
+ghost use Rattle.gdb.specs.declared.returns.Return.TheVariants.{Asks, Ends};
 ghost use Rattle.gdb.specs.Consoles.{console_from};
-ghost use Rattle.gdb.specs.Returns.{Returns, first_search, low_of, return};
-ghost use Rattle.gdb.specs.Searches.{is_of_step, place_of};
+ghost use Rattle.gdb.specs.Returns.{Returns, first_search, flow_at, low_of, return};
+ghost use Rattle.gdb.specs.Searches.{events_for, is_of_step};
+ghost use Rattle.gdb.specs.Turns.{ended, question, stop_packet};
 ghost use Rattle.gdb_past.specs.Places.{AreOfOneMachine};
+ghost use Rattle.gdb_texts.specs.Stops.{signal_of};
+ghost use Rattle.output.specs.Output.{Put};
+ghost use Rattle.reference.specs.Run.{after};
 ghost use Rattle.reference.specs.State.{State};
+ghost use Rattle.serving.specs.Pieces.{Tells};
 
 use crate::searches::{Found, Quest, Spot, Way, place_back};
 use crate::slices::{Plan, Points, Progress};
@@ -81,7 +87,12 @@ fn make_steps_to<D: Decider, C: KeptCode, L: Levels, U: DueTicks>(
     found: Found,
     progress: &mut Progress,
     machine: &mut Machine<D, C, L, U>,
-) {
+)
+    requires { progress.old.events ≡ [] }
+    ensures events { progress.new
+        ≡ record progress.old { events = events_for found.reason machine.old.state found.steps } }
+    ensures state { machine.new ≡ record machine.old { state = after found.steps machine.old.state } }
+{
     if found.steps > 0 {
         make_steps(machine, found.steps - 1);
         progress.repeat(machine);
@@ -97,7 +108,19 @@ fn arrive<D: Decider, C: KeptCode, L: Levels, U: DueTicks>(
     past: &mut Past<L, U>,
     progress: &mut Progress,
     machine: &mut Machine<D, C, L, U>,
-) {
+)
+    requires number { spot.number < length past.old.marks }
+    requires fits { AreOfOneMachine past.old.start machine.old.state }
+    requires events { progress.old.events ≡ [] }
+    ensures past { past.new ≡ record past.old { marks = drop spot.number past.old.marks } }
+    ensures events { (s : State) → progress.new ≡ record progress.old {
+      events = events_for spot.found.reason (slice_index_or past.old.marks spot.number s) spot.found.steps;
+    } }
+    ensures state { (s : State) → machine.new ≡ record machine.old {
+      state = after spot.found.steps (slice_index_or past.old.marks spot.number s);
+    } }
+    ensures same { AreOfOneMachine past.old.start machine.new.state }
+{
     past.restore(spot.number, machine);
     make_steps_to(spot.found, progress, machine);
     past.forget(spot.number);
@@ -111,7 +134,14 @@ fn end_return<D: Decider, C: KeptCode, L: Levels, U: DueTicks, W: Out>(
     sent: &mut SentPacket,
     machine: &Machine<D, C, L, U>,
     out: &mut W,
-) -> Result<Return, IoError> {
+) -> Result<Return, IoError>
+    requires { progress.old ≡ record { made = 0; console = console_from None; events = progress.old.events } }
+    ensures tells { Tells (ended terms.now.settings terms.now.points.now.watchpoints terms.now.features reason
+        progress.old.events (flow_at machine.now.state)).pieces machine.now machine.now (W.writing out.old)
+        (W.writing out.new) result }
+    ensures outcome { IfOk result (λ ends. ends ≡ Ends (signal_of reason)) }
+    ensures sent { OnOk result (sent.new.items ≡ stop_packet terms.now.features reason machine.now.state) }
+{
     let plan = Plan {
         how: Resume::Continue,
         limit: terms.limit,
@@ -141,7 +171,16 @@ fn ask<D: Decider, C: KeptCode, L: Levels, U: DueTicks, W: Out>(
     sent: &mut SentPacket,
     machine: &mut Machine<D, C, L, U>,
     out: &mut W,
-) -> Result<Return, IoError> {
+) -> Result<Return, IoError>
+    requires { AreOfOneMachine machine.old.state position.now }
+    ensures put { Put (W.writing out.old) (W.writing out.new) question result }
+    ensures outcome { IfOk result (λ ends. ends ≡ Asks (record {
+      quest = record quest { end = low; goes_on = true };
+      is_interrupted = false;
+    })) }
+    ensures sent { sent.new.items ≡ question }
+    ensures state { machine.new ≡ record machine.old { state = position.now } }
+{
     position.restore(machine);
     match send_packet(QUESTION, sent, out) {
         Ok(()) => {

@@ -212,7 +212,11 @@ fn mark_found<D: Decider, C: KeptCode, L: Levels, U: DueTicks>(
     requires { tick ≡ tick_of machine.now.state }
     ensures { result ≡ mark_found quest points.now machine.now.state }
 {
-    found_if(0, reason_of_mark(quest.way, points, tick < quest.now, machine), None)
+    found_if(
+        0,
+        reason_of_mark(quest.way, points, tick < quest.now, machine),
+        None,
+    )
 }
 
 /// Returns the last place with a reason after a mark, where the machine is, and after the tick `low`; or the mark.
