@@ -4,3 +4,4 @@ mod Slicing
 mod Telling
 mod Turning
 mod Searching
+mod Returning

@@ -1,14 +1,13 @@
 //! Turns of going back: up to a question to GDB, or to a place in the past.
 
-ghost use Rattle.std.specs.Prelude.{◌≡◌, ◌-◌, ◌<◌, [], false, true, IfOk, OnOk, None, drop, length, slice_index_or};
+ghost use Rattle.std.specs.Prelude.{◌≡◌, ◌-◌, ◌<◌, [], ◌∷◌, false, true, IfOk, OnOk, None, drop, length, slice_index_or};
 ghost use Rattle.gdb.specs.declared.returns.Return.TheVariants.{Asks, Ends};
 ghost use Rattle.gdb.specs.Consoles.{console_from};
 ghost use Rattle.gdb.specs.Returns.{Returns, first_search, flow_at, low_of, return};
 ghost use Rattle.gdb.specs.Searches.{events_for, is_of_step};
-ghost use Rattle.gdb.specs.Turns.{ended, question, stop_packet};
+ghost use Rattle.gdb.specs.Turns.{ended, question, said, stop_packet};
 ghost use Rattle.gdb_past.specs.Places.{AreOfOneMachine};
 ghost use Rattle.gdb_texts.specs.Stops.{signal_of};
-ghost use Rattle.output.specs.Output.{Put};
 ghost use Rattle.reference.specs.Run.{after};
 ghost use Rattle.reference.specs.State.{State};
 ghost use Rattle.serving.specs.Pieces.{Tells};
@@ -173,12 +172,13 @@ fn ask<D: Decider, C: KeptCode, L: Levels, U: DueTicks, W: Out>(
     out: &mut W,
 ) -> Result<Return, IoError>
     requires { AreOfOneMachine machine.old.state position.now }
-    ensures put { Put (W.writing out.old) (W.writing out.new) question result }
+    ensures tells { Tells (said (flow_at position.now) question ∷ []) machine.old machine.new (W.writing out.old)
+        (W.writing out.new) result }
     ensures outcome { IfOk result (λ ends. ends ≡ Asks (record {
       quest = record quest { end = low; goes_on = true };
       is_interrupted = false;
     })) }
-    ensures sent { sent.new.items ≡ question }
+    ensures sent { OnOk result (sent.new.items ≡ question) }
     ensures state { machine.new ≡ record machine.old { state = position.now } }
 {
     position.restore(machine);

@@ -171,6 +171,7 @@ fn last_found<D: Decider, C: KeptCode, L: Levels, U: DueTicks>(
     requires room { tick + low + count < 2 ^ 64 }
     ensures found { result ≡ last_found quest points.now settings.now machine.old.state low count }
     ensures same { AreOfOneMachine machine.old.state machine.new.state }
+    ensures kept { machine.new.broken ≡ machine.old.broken }
 {
     make_steps(machine, low);
     let mut events = Events::new();
@@ -231,6 +232,7 @@ fn found_from<D: Decider, C: KeptCode, L: Levels, U: DueTicks>(
     requires { tick ≡ tick_of machine.old.state }
     ensures found { result ≡ found_from quest points.now settings.now low machine.old.state }
     ensures same { AreOfOneMachine machine.old.state machine.new.state }
+    ensures kept { machine.new.broken ≡ machine.old.broken }
 {
     let mark = if low <= tick {
         mark_found(quest, points, tick, machine)
@@ -260,6 +262,7 @@ pub fn place_back<D: Decider, C: KeptCode, L: Levels, U: DueTicks>(
         (slice_index_or past.now.marks spot.number s) spot.found) result
         ≡ place_back quest points.now settings.now low s past.now.marks }
     ensures same { AreOfOneMachine past.now.start machine.new.state }
+    ensures kept { machine.new.broken ≡ machine.old.broken }
 {
     let mut quest = quest;
     'marks: for number in 0..past.count() {

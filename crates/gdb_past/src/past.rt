@@ -136,8 +136,9 @@ impl<L: Levels, U: DueTicks> Past<L, U> {
     )
         requires number { number < length self.now.marks }
         requires fits { AreOfOneMachine self.now.start machine.old.state }
-        ensures { (m : State) →
+        ensures state { (m : State) →
             machine.new ≡ record machine.old { state = slice_index_or self.now.marks number m } }
+        ensures same { AreOfOneMachine self.now.start machine.new.state }
     {
         self.marks[number].restore(machine);
     }

@@ -12,4 +12,5 @@ invariant-marks g l = record {
       (drop l.number l.past.marks)
       ≡ place_back l.fn.quest l.points l.settings l.low s l.past.marks;
   same : AreOfOneMachine l.past.start l.machine.state;
+  kept : l.machine.broken ≡ l.fn.machine.broken;
 }
