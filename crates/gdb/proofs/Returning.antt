@@ -1,12 +1,18 @@
 -- A turn of going back: the steps to its place, and what it leaves.
-use Rattle.std.proofs.Common.{◌≡◌, ◌∙◌, ◌-◌, ◌<◌, ℕ, suc, Bool, true, false, if◌then◌else◌, List, [], ◌∷◌}
-use Rattle.std.proofs.Common.{Option, Some, None, Result, Ok, Err, IfOk, OnOk, ap, arith, refl, subst, sym}
+use Rattle.std.proofs.Common.{◌≡◌, ◌∙◌, ◌+◌, ◌-◌, ◌<◌, ℕ, Bool, true, false, if◌then◌else◌, List, [], ◌∷◌}
+use Rattle.std.proofs.Common.{Option, Some, None, Result, Ok, Err, IfOk, OnOk, ap, arith, drop, option_map, refl}
+use Rattle.std.proofs.Common.{slice_index_or, subst, sym}
+use Rattle.std.proofs.lemmas.List.{append-nil}
 use Rattle.gdb.specs.declared.returns.Return.{Return}
 use Rattle.gdb.specs.declared.returns.Return.TheVariants.{Asks, Ends}
 use Rattle.gdb.specs.declared.returns.Search.{Search}
+use Rattle.gdb.specs.declared.searches.Quest.{Quest}
+use Rattle.gdb.specs.declared.searches.Spot.{Spot}
 use Rattle.gdb.specs.declared.slices.Points.{Points}
+use Rattle.gdb.specs.Consoles.{console_from}
 use Rattle.gdb.specs.Returns.{Returned, Returns, asked_at, flow_at, low_of, return, returned_at, returned_to}
-use Rattle.gdb.specs.Searches.{Place, place_back}
+use Rattle.gdb.specs.Searches.{Place, place_back, place_of}
+use Rattle.gdb.specs.Slices.{Progress}
 use Rattle.gdb.specs.Turns.{ended, question, said, stop_packet}
 use Rattle.gdb_past.proofs.Following.{after_more, after_none}
 use Rattle.gdb_past.specs.Places.{Past}
@@ -15,12 +21,13 @@ use Rattle.gdb_texts.specs.declared.settings.Settings.{Settings}
 use Rattle.gdb_texts.specs.declared.stops.StopReason.TheVariants.{Interrupted}
 use Rattle.gdb_texts.specs.Stops.{signal_of}
 use Rattle.machine.specs.Whole.{Whole}
-use Rattle.output.specs.Output.{Writing}
+use Rattle.output.specs.Output.{IsCutShort, Writing, WritesAll}
 use Rattle.platform.specs.declared.event.Event.{Event}
 use Rattle.reference.specs.Run.{after}
 use Rattle.reference.specs.State.{State}
 use Rattle.reference.specs.Step.{step}
-use Rattle.serving.specs.Pieces.{Piece, Tells, last_state}
+use Rattle.serving.proofs.Telling.{one_cut}
+use Rattle.serving.specs.Pieces.{Piece, Tells, TellsAll, TellsPart, last_state}
 
 -- ---- the steps to a place
 
@@ -42,7 +49,7 @@ pub from_before : {A E : Type 0} (p : Piece) (ps : List Piece) (old mid new : Wh
     → Tells (p ∷ ps) old new a b result
 from_before p ps old mid new a b (Ok done) kept tells = record {
   went = tells.went;
-  stands = tells.stands ∙ ap (λ x. record { state = last_state p.state ps; broken = x }) kept;
+  stands = tells.stands ∙ ap (λ (x : Bool). record mid { state = last_state p.state ps; broken = x }) kept;
   quiet = tells.quiet;
 }
 from_before p ps old mid new a b (Err error) kept tells = record {
@@ -50,7 +57,7 @@ from_before p ps old mid new a b (Err error) kept tells = record {
   piece = tells.piece;
   others = tells.others;
   among = tells.among;
-  stands = tells.stands ∙ ap (λ x. record { state = tells.piece.state; broken = x }) kept;
+  stands = tells.stands ∙ ap (λ (x : Bool). record mid { state = tells.piece.state; broken = x }) kept;
   cut = tells.cut;
   failed = tells.failed;
 }
@@ -64,13 +71,28 @@ returns_from r old new a b sent past (Err error) tells outcome remembered kept =
 
 -- ---- its three cases
 
-pub interrupted_here : (k : Settings) (points : Points) (features : Features) (past : Past) (search : Search)
+interrupted_here : (k : Settings) (points : Points) (features : Features) (past : Past) (search : Search)
     (s : State) → search.is_interrupted ≡ true
     → return k points features past search s ≡ returned_at k points features past Interrupted [] s
 interrupted_here k points features past search s e =
     ap (λ (b : Bool). if b then returned_at k points features past Interrupted [] s
     else returned_to k points features past search.quest (low_of features search.quest.end) s
     (place_back search.quest points k (low_of features search.quest.end) s past.marks)) e
+
+-- the machine is where it was
+pub interrupted_returns : {E : Type 0} (k : Settings) (points : Points) (features : Features) (past : Past)
+    (search : Search) (m : Whole) (events : List Event) (a b : Writing) (sent : List ℕ) (result : Result Return E)
+    → search.is_interrupted ≡ true → events ≡ []
+    → Tells (ended k points.watchpoints features Interrupted events (flow_at m.state)).pieces m m a b result
+    → IfOk result (λ ends. ends ≡ Ends (signal_of Interrupted))
+    → OnOk result (sent ≡ stop_packet features Interrupted m.state)
+    → Returns (return k points features past search m.state) m m a b sent past result
+interrupted_returns {E} k points features past search m events a b sent result e none tells outcome remembered =
+    subst (λ (r : Returned). Returns r m m a b sent past result)
+    (sym (interrupted_here k points features past search m.state e))
+    (returns_from (returned_at k points features past Interrupted [] m.state) m m a b sent past result
+    (subst (λ (es : List Event). Tells (ended k points.watchpoints features Interrupted es (flow_at m.state)).pieces
+    m m a b result) none tells) outcome remembered refl)
 
 goes_to : (k : Settings) (points : Points) (features : Features) (past : Past) (search : Search)
     (s : State) (o : Option Place) → search.is_interrupted ≡ false
@@ -112,18 +134,73 @@ found_returns {E} k points features past left search s place old new events a b 
 
 -- GDB is asked
 pub asking_returns : {E : Type 0} (k : Settings) (points : Points) (features : Features) (past : Past)
-    (search : Search) (s : State) (old mid new : Whole) (a b : Writing) (sent : List ℕ) (result : Result Return E)
-    → search.is_interrupted ≡ false
+    (search : Search) (s there : State) (low : ℕ) (old mid new : Whole) (a b : Writing) (sent : List ℕ)
+    (result : Result Return E) → search.is_interrupted ≡ false
     → ◌≡◌ {A = Option Place} None (place_back search.quest points k (low_of features search.quest.end) s past.marks)
-    → mid.broken ≡ old.broken → Tells (said (flow_at s) question ∷ []) mid new a b result
+    → low ≡ low_of features search.quest.end → there ≡ s → mid.broken ≡ old.broken
+    → Tells (said (flow_at there) question ∷ []) mid new a b result
     → IfOk result (λ ends. ends ≡ Asks (record {
-      quest = record search.quest { end = low_of features search.quest.end; goes_on = true };
+      quest = record search.quest { end = low; goes_on = true };
       is_interrupted = false;
     }))
     → OnOk result (sent ≡ question)
     → Returns (return k points features past search s) old new a b sent past result
-asking_returns {E} k points features past search s old mid new a b sent result going is kept tells outcome remembered =
+asking_returns {E} k points features past search s there low old mid new a b sent result going none is at kept tells
+    outcome remembered =
     subst (λ (r : Returned). Returns r old new a b sent past result)
-    (sym (goes_to k points features past search s None going is))
+    (sym (goes_to k points features past search s None going none))
     (returns_from (asked_at past search.quest (low_of features search.quest.end) s) old new a b sent past result
-    (from_before (said (flow_at s) question) [] old mid new a b result kept tells) outcome remembered refl)
+    (from_before (said (flow_at s) question) [] old mid new a b result kept
+    (subst (λ (t : State). Tells (said (flow_at t) question ∷ []) mid new a b result) at tells))
+    (subst (λ (n : ℕ). IfOk result (λ ends. ends ≡ Asks (record {
+      quest = record search.quest { end = n; goes_on = true };
+      is_interrupted = false;
+    }))) is outcome) remembered refl)
+
+-- the question went out from there, or a part of it
+pub asked_all : (s : State) (old new : Whole) (a b : Writing) → new ≡ record old { state = s } → WritesAll a b question
+    → TellsAll (said (flow_at s) question ∷ []) old new a b
+asked_all s old new a b is went = record { went = rw (append-nil question) went.0; stands = is; quiet = went.1 }
+
+pub asked_part : (s : State) (old new : Whole) (a b : Writing) → new ≡ record old { state = s }
+    → IsCutShort a.written b.written question → b.errors ≡ a.errors + 1
+    → TellsPart (said (flow_at s) question ∷ []) old new a b
+asked_part s old new a b is cut failed = one_cut (said (flow_at s) question) old new a b cut is failed
+
+-- ---- the place of a search
+
+pub spot_found : (q : Quest) (points : Points) (k : Settings) (low least : ℕ) (s : State) (marks : List State)
+    (o : Option Spot) (spot : Spot)
+    → option_map (λ (x : Spot). place_of (drop x.number marks) (slice_index_or marks x.number s) x.found) o
+    ≡ place_back q points k low s marks → o ≡ Some spot → low ≡ least
+    → Some (place_of (drop spot.number marks) (slice_index_or marks spot.number s) spot.found)
+    ≡ place_back q points k least s marks
+spot_found q points k low least s marks o spot found is same =
+    sym (ap (λ (p : Option Spot).
+    option_map (λ (x : Spot). place_of (drop x.number marks) (slice_index_or marks x.number s) x.found) p) is)
+    ∙ (found ∙ ap (λ n. place_back q points k n s marks) same)
+
+pub none_found : (q : Quest) (points : Points) (k : Settings) (low least : ℕ) (s : State) (marks : List State)
+    (o : Option Spot)
+    → option_map (λ (x : Spot). place_of (drop x.number marks) (slice_index_or marks x.number s) x.found) o
+    ≡ place_back q points k low s marks → o ≡ None → low ≡ least
+    → ◌≡◌ {A = Option Place} None (place_back q points k least s marks)
+none_found q points k low least s marks o found is same =
+    sym (ap (λ (p : Option Spot).
+    option_map (λ (x : Spot). place_of (drop x.number marks) (slice_index_or marks x.number s) x.found) p) is)
+    ∙ (found ∙ ap (λ n. place_back q points k n s marks) same)
+
+-- ---- the progress of a run backwards has no text
+
+pub nothing_made : (p : Progress) → p ≡ record { made = 0; console = console_from None; events = [] }
+    → p ≡ record { made = 0; console = console_from None; events = p.events }
+nothing_made p is = is ∙ ap (λ (es : List Event). record p { made = 0; console = console_from None; events = es })
+    (sym (ap (λ (x : Progress). x.events) is))
+
+pub still_nothing : (p next : Progress) (es : List Event)
+    → p ≡ record { made = 0; console = console_from None; events = [] } → next ≡ record p { events = es }
+    → next ≡ record { made = 0; console = console_from None; events = next.events }
+still_nothing p next es is goes =
+    goes ∙ (ap (λ (x : Progress). record x { events = es }) is
+    ∙ ap (λ (fs : List Event). record p { made = 0; console = console_from None; events = fs })
+    (sym (ap (λ (x : Progress). x.events) goes)))

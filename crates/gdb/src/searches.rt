@@ -1,7 +1,7 @@
 //! Searches in the past of a machine, for the last place at which a run backwards ends.
 
-ghost use Rattle.std.specs.Prelude.{◌≡◌, ◌+◌, ◌<◌, ◌^◌, ◌&&◌, ◌||◌, if◌then◌else◌, nat_lt, None, drop, option_map};
-ghost use Rattle.std.specs.Prelude.{slice_index_or};
+ghost use Rattle.std.specs.Prelude.{◌≡◌, ◌+◌, ◌<◌, ◌^◌, ◌&&◌, ◌||◌, if◌then◌else◌, nat_lt, IfSome, None, drop};
+ghost use Rattle.std.specs.Prelude.{length, option_map, slice_index_or};
 ghost use Rattle.gdb.specs.Reasons.{first_hit, has_entry, reason_if, reason_of_events, reason_or, watch_reason};
 ghost use Rattle.gdb.specs.Searches.{found_from, found_if, last_found, mark_found, place_back, place_of};
 ghost use Rattle.gdb.specs.Searches.{reason_of_mark, reason_of_next, reason_of_step, reason_there};
@@ -261,6 +261,7 @@ pub fn place_back<D: Decider, C: KeptCode, L: Levels, U: DueTicks>(
     ensures place { (s : State) → option_map (λ spot. place_of (drop spot.number past.now.marks)
         (slice_index_or past.now.marks spot.number s) spot.found) result
         ≡ place_back quest points.now settings.now low s past.now.marks }
+    ensures number { IfSome result (λ spot. spot.number < length past.now.marks) }
     ensures same { AreOfOneMachine past.now.start machine.new.state }
     ensures kept { machine.new.broken ≡ machine.old.broken }
 {

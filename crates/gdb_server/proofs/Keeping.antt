@@ -83,7 +83,7 @@ after_keeps past true s None = refl
 after_keeps past false s None = refl
 after_keeps past something s (Some error) = refl
 
-by_keeps : (past : Past) (w : Written) (asked : Result Monitor LineError) → (past_by past w asked).start ≡ past.start
+pub by_keeps : (past : Past) (w : Written) (asked : Result Monitor LineError) → (past_by past w asked).start ≡ past.start
 by_keeps past w (Ok monitor.Help) = refl
 by_keeps past w (Ok (monitor.Explain a privileged kind)) = refl
 by_keeps past w (Ok monitor.Regions) = refl

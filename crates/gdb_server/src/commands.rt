@@ -1,7 +1,6 @@
 //! The commands of `monitor`.
 
-ghost use Rattle.std.specs.Prelude.{◌≡◌, ◌+◌, ◌≤◌, ◌++◌, true, decimal};
-ghost use Rattle.arrayvec.specs.ArrayVec.{array_vec_len};
+ghost use Rattle.std.specs.Prelude.{◌≡◌, ◌+◌, ◌≤◌, ◌++◌, true, decimal, length};
 ghost use Rattle.gdb.specs.Targets.{altered_if};
 ghost use Rattle.platform.specs.Text.{line_feed};
 ghost use Rattle.debugger.specs.Answers.{next_text};
@@ -92,13 +91,17 @@ fn put_and_mark<D: Decider, C: KeptCode, L: Levels, U: DueTicks>(
     requires { AreOfOneMachine machine.old.state past.old.start }
     ensures writes { Writes (after_place machine.old.state (altered_if machine.old.state place)) machine.old
         machine.new result }
-    ensures past { past.new ≡ past_after past.old true machine.new.state result }
+    ensures past { past.new ≡ past_after past.old true
+        (after_place machine.old.state (altered_if machine.old.state place)).state
+        (after_place machine.old.state (altered_if machine.old.state place)).refused }
 {
-    let refused = put(machine, place);
-    if refused.is_none() {
-        past.mark(machine);
+    match put(machine, place) {
+        Some(error) => Some(error),
+        None => {
+            past.mark(machine);
+            None
+        }
     }
-    refused
 }
 
 /// Puts the value of a command into its place, where the command has one, or takes the machine back to its first state.
@@ -167,11 +170,12 @@ fn placed_text(refused: Option<PlaceError>) -> Reply
 
 /// Puts the line of a tick.
 fn put_tick(page: &mut Page<256>, tick: u64)
-    requires { array_vec_len page.old + 21 ≤ 256 }
-    ensures { page.new ≡ page.old ++ (decimal tick ++ line_feed) }
+    requires { length page.old ≤ 235 }
+    ensures text { page.new ≡ page.old ++ (decimal tick ++ line_feed) }
+    ensures short { length page.new ≤ length page.old + 21 }
 {
     page.put_decimal(tick);
-    page.put_slice(b"\n");
+    page.put(b"\n");
 }
 
 /// Returns the ticks of the marks, a line each, and the tick now.
@@ -187,7 +191,7 @@ fn history_text<D: Decider, C: KeptCode, L: Levels, U: DueTicks>(
         left -= 1;
         put_tick(&mut page, past.tick(left));
     }
-    page.put_slice(b"now ");
+    page.put(b"now ");
     put_tick(&mut page, machine.ticks());
     page
 }

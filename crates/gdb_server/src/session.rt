@@ -1,15 +1,14 @@
 //! What a session keeps between two packets, and what a packet makes.
 
-ghost use Rattle.std.specs.Prelude.{◌≡◌, ◌≤◌, IfOk, OnOk, Some, bytes_eq, false, length};
+ghost use Rattle.std.specs.Prelude.{◌≡◌, ◌≤◌, IfOk, OnOk, Some, false, length};
 ghost use Rattle.gdb_packets.specs.Replies.{packet_of};
 ghost use Rattle.gdb_past.specs.Places.{AreOfOneMachine};
 ghost use Rattle.gdb_packets.specs.Seen.{seen_packet};
 ghost use Rattle.gdb_server.specs.Commands.{command_of, placed_by, settings_with};
-ghost use Rattle.gdb_server.specs.Conduct.{acknowledgement, answered, begun, commanded, first_turn, gone_on, heard};
-ghost use Rattle.gdb_server.specs.Conduct.{interrupted, is_interrupt, long_heard, packet_heard, past_after, past_by};
+ghost use Rattle.gdb_server.specs.Conduct.{acknowledgement, answered, begun, commanded, gone_on, heard};
+ghost use Rattle.gdb_server.specs.Conduct.{interrupted, long_heard, packet_heard, past_after, past_by};
 ghost use Rattle.gdb_server.specs.Conduct.{replied, reply_heard, restarted, resumed, searched, sent_again, told};
 ghost use Rattle.gdb_server.specs.Conduct.{too_long, whole_heard, with_return, with_turn, wrote};
-ghost use Rattle.gdb_server.specs.Purposes.{is_file_reply};
 ghost use Rattle.gdb_server.specs.Replies.{data_read};
 ghost use Rattle.gdb_server.specs.Sessions.{data_of_reply, data_of_write, left, opened, reply_packet, session_after};
 ghost use Rattle.gdb_server.specs.Sessions.{set_data, with_reply};
@@ -22,17 +21,17 @@ use crate::commands::{place_by, read_command, settings_with, tell_command};
 use crate::content::{Data, constant_text, features};
 use crate::purposes::{MachineChange, Purpose, Reading, SessionChange, purpose_of};
 use crate::reading::read;
-use crate::waiting::{Waiting, interrupted_if};
+use crate::waiting::{Waiting, first_turn, interrupted_if, is_file_reply, is_interrupt};
 use crate::writes::{write, writes};
 use debugger_commands::LineError;
 use devices::{Device, MOST_DEVICES};
 use gdb::{
     Points, Return, Run, Search, SentPacket, Terms, Turn, first_search, go_back, go_on, send_packet,
 };
-use gdb_packets::{Event, Packet, Request, read_packet};
+use gdb_packets::{Event, Packet, read_packet};
 use gdb_past::{Past, Position};
 use gdb_texts::{
-    Breakpoints, ErrorCode, Features, Monitor, Reply, Resume, Settings, Signal, Watchpoints,
+    Breakpoints, ErrorCode, Features, Monitor, Reply, Settings, Signal, Watchpoints,
     first_settings, read_features, refusal, reply_text,
 };
 use machine::{Decider, DueTicks, IoError, KeptCode, Layout, Levels, Machine, Out, PlaceError};
@@ -114,39 +113,6 @@ fn data_of_write(refused: Option<PlaceError>) -> Result<Data, ErrorCode>
         Some(error) => Err(refusal(error)),
         None => data_of_reply(Reply::Done),
     }
-}
-
-/// Returns whether two texts are equal.
-fn is_same(text: &[u8], other: &[u8]) -> bool
-    ensures { result ≡ bytes_eq text.now other.now }
-{
-    text == other
-}
-
-/// Returns whether the reply to a question says that the user has interrupted the run.
-fn is_interrupt(tail: &[u8]) -> bool
-    ensures { result ≡ is_interrupt tail.now }
-{
-    tail.len() >= 2 && is_same(&tail[tail.len() - 2..], b",C")
-}
-
-/// Returns a run before its first step.
-fn first_turn(how: Resume) -> Run
-    ensures { result ≡ first_turn how }
-{
-    Run {
-        how,
-        made: 0,
-        last: None,
-        is_interrupted: false,
-    }
-}
-
-/// Returns whether a packet is the reply to a question.
-fn is_file_reply(request: Request) -> bool
-    ensures { result ≡ is_file_reply request }
-{
-    matches!(request, Request::FileReply)
 }
 
 impl<L: Levels, U: DueTicks> Session<L, U> {
@@ -366,8 +332,13 @@ impl<L: Levels, U: DueTicks> Session<L, U> {
           past = past_after self.old.past something machine.now.state refused;
         } }
     {
-        if something && refused.is_none() {
-            self.past.mark(machine);
+        match refused {
+            Some(_) => {}
+            None => {
+                if something {
+                    self.past.mark(machine);
+                }
+            }
         }
     }
 

@@ -38,3 +38,6 @@ steps-preserved g c =
 pub returns-clause-same : goal.returns-clause-same
 returns-clause-same g c =
     rw c.steps.invariant.machine (same_after (c.args.low + c.steps.step) c.args.machine.now.state)
+
+pub returns-clause-kept : goal.returns-clause-kept
+returns-clause-kept g c = ap (λ (k : Whole). k.broken) c.steps.invariant.machine

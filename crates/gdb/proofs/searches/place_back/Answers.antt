@@ -32,6 +32,14 @@ returns-in-Some-clause-same g c =
     same_trans c.args.past.now.start c.restore.new.machine.state c.found_from.new.machine.state c.restore.ensures.same
     c.found_from.ensures.same
 
+pub returns-in-Some-clause-number : goal.returns-in-Some-clause-number
+returns-in-Some-clause-number g c = omega (arith, c.marks-test.true, c.count-number-end.ensures.count)
+
+pub returns-in-Some-clause-kept : goal.returns-in-Some-clause-kept
+returns-in-Some-clause-kept g c =
+    c.found_from.ensures.kept
+    ∙ (ap (λ (m : Whole). m.broken) (c.restore.ensures.state c.args.past.now.start) ∙ c.marks.invariant.kept)
+
 pub returns-then-tick-low-clause-place : goal.returns-then-tick-low-clause-place
 returns-then-tick-low-clause-place g c = λ s.
     let marks : List State = c.args.past.now.marks in
@@ -49,6 +57,11 @@ pub returns-then-tick-low-clause-same : goal.returns-then-tick-low-clause-same
 returns-then-tick-low-clause-same g c =
     same_trans c.args.past.now.start c.restore.new.machine.state c.found_from.new.machine.state c.restore.ensures.same
     c.found_from.ensures.same
+
+pub returns-then-tick-low-clause-kept : goal.returns-then-tick-low-clause-kept
+returns-then-tick-low-clause-kept g c =
+    c.found_from.ensures.kept
+    ∙ (ap (λ (m : Whole). m.broken) (c.restore.ensures.state c.args.past.now.start) ∙ c.marks.invariant.kept)
 
 pub marks-preserved : goal.marks-preserved
 marks-preserved g c =
@@ -70,6 +83,8 @@ marks-preserved g c =
             ∙ c.marks.invariant.place s);
         same = rw w.machine-is (same_trans c.args.past.now.start w.restore.new.machine.state
             w.found_from.new.machine.state w.restore.ensures.same w.found_from.ensures.same);
+        kept = ap (λ (m : Whole). m.broken) w.machine-is ∙ (w.found_from.ensures.kept
+            ∙ (ap (λ (m : Whole). m.broken) (w.restore.ensures.state c.args.past.now.start) ∙ c.marks.invariant.kept));
       }
     | else-tick-quest w ↦ record {
         place = λ s.
@@ -80,6 +95,7 @@ marks-preserved g c =
             (omega (arith, at, w.if-tick-quest.false))
             ∙ c.marks.invariant.place s);
         same = rw w.machine-is c.marks.invariant.same;
+        kept = ap (λ (m : Whole). m.broken) w.machine-is ∙ c.marks.invariant.kept;
       }
     ]
 
@@ -91,3 +107,6 @@ returns-clause-place g c = λ s.
     ∙ (ap (λ i. place_back c.marks.quest c.args.points.now c.args.settings.now c.args.low
     (slice_index_or (s ∷ c.args.past.now.marks) i s) (drop i c.args.past.now.marks)) (sym all)
     ∙ c.marks.invariant.place s)
+
+pub returns-clause-number : goal.returns-clause-number
+returns-clause-number g c = omega (arith, c.count.ensures.count, c.count.ensures.some)

@@ -40,4 +40,4 @@ returns-in-Set-clause-kept g c =
 pub returns-in-Restart-clause-tells : goal.returns-in-Restart-clause-tells
 returns-in-Restart-clause-tells g c =
     rw c.in-Restart.is (moved c.args.self.now.past.start c.args.machine.now c.restart.new.machine
-    (g.W.Out.writing c.args.out.now) c.restart.ensures)
+    (g.W.Out.writing c.args.out.now) c.restart.ensures.machine)

@@ -11,5 +11,5 @@ returns-clause-same g c =
     let s : State = c.args.machine.now.state in
     let first : State = c.self.inside.past.start in
     let fits : AreOfOneMachine first s = rw (← c.self.view_is) at c.requires in
-    subst (λ (m : Whole). AreOfOneMachine s m.state) (sym c.place_by-refused.ensures.0)
+    subst (λ (m : Whole). AreOfOneMachine s m.state) (sym c.place_by-refused.ensures.writes.0)
     (command_stays first s c.read_command-asked.result (same_sym first s fits))

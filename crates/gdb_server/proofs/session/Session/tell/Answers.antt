@@ -13,7 +13,7 @@ returns-in-Err-clause-tells g c =
     let s = c.args.machine.now.state in
     let put = rw c.last_refusal.ensures at c.in-Err.ensures in
     let text : Piece =
-    piece s (console_text (command_text s c.args.self.now.refused c.args.refused c.args.asked)) in
+    piece s (console_text (command_text c.args.self.now.past s c.args.self.now.refused c.args.refused c.args.asked)) in
     cut_before (text ∷ []) (piece s (reply_packet ok) ∷ []) _ _ _ _ (one_cut text _ _ _ _ put.0 refl put.1)
 
 pub returns-clause-tells : goal.returns-clause-tells
@@ -22,7 +22,7 @@ returns-clause-tells g c =
     let put = rw c.last_refusal.ensures at c.in-Ok.ensures in
     let then = rw c.data_of_reply.ensures at c.put_reply.ensures.put in
     let text : Piece =
-    piece m.state (console_text (command_text m.state c.args.self.now.refused c.args.refused c.args.asked)) in
+    piece m.state (console_text (command_text c.args.self.now.past m.state c.args.self.now.refused c.args.refused c.args.asked)) in
     let first : TellsAll (text ∷ []) m m (g.W.Out.writing c.args.out.now) (g.W.Out.writing c.tell_command.new.out) =
     put_told {E = IoError} text m m _ _ (Ok c.in-Ok.field-0) put refl in
     let last : Piece = piece m.state (reply_packet ok) in

@@ -1,0 +1,69 @@
+-- Marks after writes, and the lines of the marks.
+use Rattle.std.proofs.Common.{◌≡◌, ◌∙◌, ◌+◌, ◌*◌, ◌<◌, ◌≤◌, ℕ, suc, Bool, true, List, [], ◌∷◌, ◌++◌, codes, length, drop}
+use Rattle.std.proofs.Common.{Option, Some, None, Result, ap, append_assoc, arith, refl, slice_index_or, sym}
+use Rattle.std.specs.Fmt.{decimal}
+use Rattle.std.proofs.Math.Seq.{drop-cons, drop-length}
+use Rattle.gdb_past.specs.Places.{Past, marked, tick_of}
+use Rattle.gdb_server.specs.Commands.{history_text, mark_lines, tick_line}
+use Rattle.gdb_server.specs.Conduct.{past_after, wrote}
+use Rattle.gdb_server.specs.Sessions.{Session, data_of_write, with_reply}
+use Rattle.gdb_server.specs.Writes.{Written, Writes}
+use Rattle.gdb_texts.specs.declared.replies.ErrorCode.{ErrorCode}
+use Rattle.machine.specs.Whole.{Whole}
+use Rattle.platform.specs.declared.error.PlaceError.{PlaceError}
+use Rattle.platform.specs.Text.{line_feed}
+use Rattle.reference.specs.State.{State}
+
+-- ---- writes
+
+-- a write that was refused leaves no mark
+pub keeps_written : (past : Past) (something : Bool) (w : Written) (old new : Whole) (why : Option PlaceError)
+    (error : PlaceError) → Writes w old new why → why ≡ Some error
+    → past ≡ past_after past something w.state w.refused
+keeps_written past something w old new why error wrote is =
+    ap (λ (o : Option PlaceError). past_after past something w.state o) (sym is ∙ wrote.1)
+
+-- another one does
+pub marks_written : (past after : Past) (w : Written) (old new : Whole) (why : Option PlaceError) → Writes w old new why
+    → why ≡ None → after ≡ marked past new.state → after ≡ past_after past true w.state w.refused
+marks_written past after w old new why wrote is marks =
+    marks ∙ (ap (λ (m : Whole). marked past m.state) wrote.0
+    ∙ ap (λ (o : Option PlaceError). past_after past true w.state o) (sym is ∙ wrote.1))
+
+-- the session after a write
+pub session_wrote : (k marks left : Session) (something : Bool) (w : Written) (old new : Whole) (why : Option PlaceError)
+    (data : Result (List ℕ) ErrorCode) → Writes w old new why
+    → marks ≡ record k { past = past_after k.past something new.state why } → data ≡ data_of_write why
+    → left ≡ with_reply marks data → left ≡ (wrote k something w).session
+session_wrote k marks left something w old new why data write is answer ends =
+    ends ∙ (ap (λ (m : Session). with_reply m data) is
+    ∙ (ap (λ (d : Result (List ℕ) ErrorCode). with_reply (record k { past = past_after k.past something new.state why }) d)
+    (answer ∙ ap data_of_write write.1)
+    ∙ (ap (λ (m : Whole). with_reply (record k { past = past_after k.past something m.state why })
+    (data_of_write w.refused)) write.0
+    ∙ ap (λ (o : Option PlaceError). with_reply (record k { past = past_after k.past something w.state o })
+    (data_of_write w.refused)) write.1)))
+
+-- ---- the lines of the marks
+
+pub no_lines : (marks : List State) (n : ℕ) → n ≡ length marks → [] ≡ mark_lines (drop n marks)
+no_lines marks n is = ap mark_lines (sym (ap (λ i. drop i marks) is ∙ drop-length marks))
+
+pub one_more_line : (marks : List State) (left n tick : ℕ) (m : State) (page : List ℕ) → n < length marks
+    → left ≡ suc n → tick ≡ tick_of (slice_index_or marks n m) → page ≡ mark_lines (drop left marks)
+    → page ++ (decimal tick ++ line_feed) ≡ mark_lines (drop n marks)
+one_more_line marks left n tick m page there next is so_far =
+    ap (λ (text : List ℕ). text ++ (decimal tick ++ line_feed))
+    (so_far ∙ ap (λ i. mark_lines (drop i marks)) next)
+    ∙ (ap (λ i. mark_lines (drop (suc n) marks) ++ (decimal i ++ line_feed)) is
+    ∙ sym (ap mark_lines (drop-cons marks n m there)))
+
+pub history_ends : (past : Past) (s : State) (left tick : ℕ) (page now all : List ℕ) → left ≡ 0
+    → page ≡ mark_lines (drop left past.marks) → now ≡ page ++ codes "now " → tick ≡ tick_of s
+    → all ≡ now ++ (decimal tick ++ line_feed) → all ≡ history_text past s
+history_ends past s left tick page now all none lines here is ends =
+    ends ∙ (ap (λ (text : List ℕ). text ++ (decimal tick ++ line_feed)) here
+    ∙ (append_assoc page (codes "now ") (decimal tick ++ line_feed)
+    ∙ (ap (λ (text : List ℕ). text ++ (codes "now " ++ (decimal tick ++ line_feed)))
+    (lines ∙ ap (λ i. mark_lines (drop i past.marks)) none)
+    ∙ ap (λ i. mark_lines past.marks ++ (codes "now " ++ (decimal i ++ line_feed))) is)))
