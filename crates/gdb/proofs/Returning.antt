@@ -120,11 +120,11 @@ pub found_returns : {E : Type 0} (k : Settings) (points : Points) (features : Fe
 found_returns {E} k points features past left search s place old new events a b sent result going is at same_events forgot
     kept tells outcome remembered =
     let tells_events =
-        subst (λ (es : List Event). Tells (ended k points.watchpoints features place.reason es (flow_at new.state)).pieces
-        new new a b result) same_events tells in
+    subst (λ (es : List Event). Tells (ended k points.watchpoints features place.reason es (flow_at new.state)).pieces
+    new new a b result) same_events tells in
     let tells_there =
-        subst (λ (t : State). Tells (ended k points.watchpoints features place.reason place.events (flow_at t)).pieces
-        new new a b result) at tells_events in
+    subst (λ (t : State). Tells (ended k points.watchpoints features place.reason place.events (flow_at t)).pieces
+    new new a b result) at tells_events in
     subst (λ (r : Returned). Returns r old new a b sent left result)
     (sym (goes_to k points features past search s (Some place) going is))
     (returns_from (returned_at k points features (record past { marks = place.marks }) place.reason place.events

@@ -60,7 +60,7 @@ pub passed_over : (q : Quest) (points : Points) (k : Settings) (low n : ℕ) (s 
 unfolding place_back
 passed_over q points k low n s marks there late =
     let e : nat_lt q.end (tick_of (slice_index_or marks n s)) ≡ true =
-        lt-ltb q.end (tick_of (slice_index_or marks n s)) late in
+    lt-ltb q.end (tick_of (slice_index_or marks n s)) late in
     rw (drop-cons marks n s there, e, add-one) refl
 
 not_after : (a b : ℕ) → b ≤ a → nat_lt a b ≡ false
@@ -75,7 +75,7 @@ pub found_here : (q : Quest) (points : Points) (k : Settings) (low n : ℕ) (s :
 found_here q points k low n s marks found there h is =
     let m = slice_index_or marks n s in
     let later = if nat_le low (tick_of m) then place_back (before_mark q m) points k low m (drop (suc n) marks)
-        else None in
+    else None in
     ap (λ (l : List State). Some (place_of l m found)) (drop-cons marks n s there)
     ∙ (ap (λ (f : Option Found). place_or (m ∷ drop (suc n) marks) m f later) is
     ∙ sym (first_left q points k low n s marks there (not_after q.end (tick_of m) h)))
@@ -89,7 +89,7 @@ none_here q points k low n s marks there h early is =
     let m = slice_index_or marks n s in
     let ends : nat_le low (tick_of m) ≡ false = grind (arith, nat_tests) in
     let later = if nat_le low (tick_of m) then place_back (before_mark q m) points k low m (drop (suc n) marks)
-        else None in
+    else None in
     sym (ap (λ (b : Bool). if b then place_back (before_mark q m) points k low m (drop (suc n) marks) else None) ends)
     ∙ (ap (λ (f : Option Found). place_or (m ∷ drop (suc n) marks) m f later) is
     ∙ sym (first_left q points k low n s marks there (not_after q.end (tick_of m) h)))
@@ -105,7 +105,7 @@ none_yet q points k low n s marks there h goes is =
     let m = slice_index_or marks n s in
     let on : nat_le low (tick_of m) ≡ true = grind (arith, nat_tests) in
     let later = if nat_le low (tick_of m) then place_back (before_mark q m) points k low m (drop (suc n) marks)
-        else None in
+    else None in
     rw add-one (sym (ap (λ (b : Bool). if b then place_back (before_mark q m) points k low m (drop (suc n) marks)
     else None) on)
     ∙ (ap (λ (f : Option Found). place_or (m ∷ drop (suc n) marks) m f later) is
@@ -123,7 +123,7 @@ past_begins q points k low n s marks all some =
     let last : suc (n - 1) ≡ n = omega (arith, some) in
     let none : drop n marks ≡ [] = rw all (drop-length marks) in
     let one : drop (n - 1) marks ≡ m ∷ [] =
-        drop-cons marks (n - 1) s (omega (arith, all, some)) ∙ ap (λ (l : List State). m ∷ l)
-        (ap (λ i. drop i marks) last ∙ none) in
+    drop-cons marks (n - 1) s (omega (arith, all, some)) ∙ ap (λ (l : List State). m ∷ l)
+    (ap (λ i. drop i marks) last ∙ none) in
     rw none (ap (λ (l : List State). Some (place_of l m (record { steps = 0; reason = PastBegins }))) one
     ∙ ap (λ i. Some (begins (slice_index_or (s ∷ marks) i s))) last)

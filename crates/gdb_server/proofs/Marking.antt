@@ -32,17 +32,17 @@ marks_written past after w old new why wrote is marks =
 
 -- the session after a write
 pub session_wrote : (k marks left : Session) (something : Bool) (w : Written) (old new : Whole) (why : Option PlaceError)
-    (data : Result (List ℕ) ErrorCode) → Writes w old new why
-    → marks ≡ record k { past = past_after k.past something new.state why } → data ≡ data_of_write why
-    → left ≡ with_reply marks data → left ≡ (wrote k something w).session
-session_wrote k marks left something w old new why data write is answer ends =
-    ends ∙ (ap (λ (m : Session). with_reply m data) is
+    (reply : Result (List ℕ) ErrorCode) → Writes w old new why
+    → marks ≡ record k { past = past_after k.past something new.state why } → reply ≡ data_of_write why
+    → left ≡ with_reply marks reply → left ≡ (wrote k something w).session
+session_wrote k marks left something w old new why reply wrote is answer ends =
+    ends ∙ (ap (λ (m : Session). with_reply m reply) is
     ∙ (ap (λ (d : Result (List ℕ) ErrorCode). with_reply (record k { past = past_after k.past something new.state why }) d)
-    (answer ∙ ap data_of_write write.1)
+    (answer ∙ ap data_of_write wrote.1)
     ∙ (ap (λ (m : Whole). with_reply (record k { past = past_after k.past something m.state why })
-    (data_of_write w.refused)) write.0
+    (data_of_write w.refused)) wrote.0
     ∙ ap (λ (o : Option PlaceError). with_reply (record k { past = past_after k.past something w.state o })
-    (data_of_write w.refused)) write.1)))
+    (data_of_write w.refused)) wrote.1)))
 
 -- ---- the lines of the marks
 

@@ -23,7 +23,9 @@ use gdb_past::Past;
 use gdb_texts::{
     ErrorCode, Monitor, Settings, explanation, monitor_help, read_monitor, settings_after, why_text,
 };
-use machine::{Decider, Decision, DueTicks, IoError, KeptCode, Levels, Machine, Out, Place, PlaceError};
+use machine::{
+    Decider, Decision, DueTicks, IoError, KeptCode, Levels, Machine, Out, Place, PlaceError,
+};
 use trace::page::Page;
 
 /// Returns whether a command is known. That of steps over handlers isn't.

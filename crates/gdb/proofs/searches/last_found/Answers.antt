@@ -24,15 +24,15 @@ steps-preserved g c =
     let n = c.args.low + c.steps.step in
     record {
       machine = c.reason_there-reason.ensures.state
-      ∙ (ap (λ (k : Whole). record k { state = (step k.state).state }) c.steps.invariant.machine
-      ∙ ap (λ (s : State). record m { state = s })
-      (sym (after_more n (c.args.low + (c.steps.step + 1)) m.state (omega arith))));
+          ∙ (ap (λ (k : Whole). record k { state = (step k.state).state }) c.steps.invariant.machine
+          ∙ ap (λ (s : State). record m { state = s })
+          (sym (after_more n (c.args.low + (c.steps.step + 1)) m.state (omega arith))));
       found = c.found_if-found.ensures
-      ∙ one_more c.args.quest c.args.points.now c.args.settings.now m.state c.steps.machine.state c.args.low
-      c.steps.step (c.args.tick + (c.args.low + c.steps.step + 1)) (c.args.low + c.steps.step + 1)
-      c.reason_there-reason.result c.steps.found (omega (arith, c.requires.tick)) (omega arith)
-      (ap (λ (k : Whole). k.state) c.steps.invariant.machine) c.reason_there-reason.ensures.reason
-      c.steps.invariant.found;
+          ∙ one_more c.args.quest c.args.points.now c.args.settings.now m.state c.steps.machine.state c.args.low
+          c.steps.step (c.args.tick + (c.args.low + c.steps.step + 1)) (c.args.low + c.steps.step + 1)
+          c.reason_there-reason.result c.steps.found (omega (arith, c.requires.tick)) (omega arith)
+          (ap (λ (k : Whole). k.state) c.steps.invariant.machine) c.reason_there-reason.ensures.reason
+          c.steps.invariant.found;
     }
 
 pub returns-clause-same : goal.returns-clause-same

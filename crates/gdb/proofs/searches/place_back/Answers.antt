@@ -69,7 +69,7 @@ marks-preserved g c =
     let n = c.marks.number in
     let there : n < length marks = omega (arith, c.marks-test.true, c.count-number-end.ensures.count) in
     elim c.if-tick-quest.branch [
-      then-tick-quest+in_default+else-tick-low w ↦ record {
+      | then-tick-quest+in_default+else-tick-low w ↦ record {
         place = λ s.
             let at : c.tick-tick.result ≡ tick_of (slice_index_or marks n s) = c.tick-tick.ensures s in
             ap (λ (q : Quest). place_back q c.args.points.now c.args.settings.now c.args.low
@@ -86,7 +86,7 @@ marks-preserved g c =
         kept = ap (λ (m : Whole). m.broken) w.machine-is ∙ (w.found_from.ensures.kept
             ∙ (ap (λ (m : Whole). m.broken) (w.restore.ensures.state c.args.past.now.start) ∙ c.marks.invariant.kept));
       }
-    | else-tick-quest w ↦ record {
+      | else-tick-quest w ↦ record {
         place = λ s.
             let at : c.tick-tick.result ≡ tick_of (slice_index_or marks n s) = c.tick-tick.ensures s in
             ap (λ (q : Quest). place_back q c.args.points.now c.args.settings.now c.args.low

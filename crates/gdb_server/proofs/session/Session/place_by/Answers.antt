@@ -15,6 +15,6 @@ invariant_of-self g c =
         c.place_by.ensures.past,
         by_keeps past (placed_by past.start c.args.machine.now.state c.args.asked) c.args.asked,
       )
-      c.self.invariant.0,
+          c.self.invariant.0,
       c.self.invariant.1,
     )
