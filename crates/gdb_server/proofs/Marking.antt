@@ -1,10 +1,10 @@
 -- Marks after writes, and the lines of the marks.
-use Rattle.std.proofs.Common.{◌≡◌, ◌∙◌, ◌+◌, ◌*◌, ◌<◌, ◌≤◌, ℕ, suc, Bool, true, List, [], ◌∷◌, ◌++◌, codes, length, drop}
-use Rattle.std.proofs.Common.{Option, Some, None, Result, ap, append_assoc, arith, refl, slice_index_or, sym}
+use Rattle.std.proofs.Common.{◌≡◌, ◌∙◌, ◌<◌, ℕ, suc, Bool, true, List, [], ◌∷◌, ◌++◌, codes, length, drop}
+use Rattle.std.proofs.Common.{Option, Some, None, Result, ap, append_assoc, slice_index_or, sym}
 use Rattle.std.specs.Fmt.{decimal}
 use Rattle.std.proofs.Math.Seq.{drop-cons, drop-length}
 use Rattle.gdb_past.specs.Places.{Past, marked, tick_of}
-use Rattle.gdb_server.specs.Commands.{history_text, mark_lines, tick_line}
+use Rattle.gdb_server.specs.Commands.{history_text, mark_lines}
 use Rattle.gdb_server.specs.Conduct.{past_after, wrote}
 use Rattle.gdb_server.specs.Sessions.{Session, data_of_write, with_reply}
 use Rattle.gdb_server.specs.Writes.{Written, Writes}
@@ -58,12 +58,16 @@ one_more_line marks left n tick m page there next is so_far =
     ∙ (ap (λ i. mark_lines (drop (suc n) marks) ++ (decimal i ++ line_feed)) is
     ∙ sym (ap mark_lines (drop-cons marks n m there)))
 
-pub history_ends : (past : Past) (s : State) (left tick : ℕ) (page now all : List ℕ) → left ≡ 0
-    → page ≡ mark_lines (drop left past.marks) → now ≡ page ++ codes "now " → tick ≡ tick_of s
-    → all ≡ now ++ (decimal tick ++ line_feed) → all ≡ history_text past s
-history_ends past s left tick page now all none lines here is ends =
+pub history_ends : (past : Past) (s : State) (tick : ℕ) (page now all : List ℕ) → page ≡ mark_lines past.marks
+    → now ≡ page ++ codes "now " → tick ≡ tick_of s → all ≡ now ++ (decimal tick ++ line_feed)
+    → all ≡ history_text past s
+history_ends past s tick page now all lines here is ends =
     ends ∙ (ap (λ (text : List ℕ). text ++ (decimal tick ++ line_feed)) here
     ∙ (append_assoc page (codes "now ") (decimal tick ++ line_feed)
-    ∙ (ap (λ (text : List ℕ). text ++ (codes "now " ++ (decimal tick ++ line_feed)))
-    (lines ∙ ap (λ i. mark_lines (drop i past.marks)) none)
+    ∙ (ap (λ (text : List ℕ). text ++ (codes "now " ++ (decimal tick ++ line_feed))) lines
     ∙ ap (λ i. mark_lines past.marks ++ (codes "now " ++ (decimal i ++ line_feed))) is)))
+
+pub line_put : (page digits mid last : List ℕ) → mid ≡ page ++ digits → last ≡ mid ++ line_feed
+    → last ≡ page ++ (digits ++ line_feed)
+line_put page digits mid last is ends =
+    ends ∙ (ap (λ (text : List ℕ). text ++ line_feed) is ∙ append_assoc page digits line_feed)

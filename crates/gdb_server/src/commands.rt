@@ -6,7 +6,7 @@ ghost use Rattle.platform.specs.Text.{line_feed};
 ghost use Rattle.debugger.specs.Answers.{next_text};
 ghost use Rattle.gdb_server.specs.Commands.{command_of, command_text, console_text, decided_text, flush_advice};
 ghost use Rattle.gdb_server.specs.Commands.{is_known, known};
-ghost use Rattle.gdb_server.specs.Commands.{history_text, placed_by, placed_text, settings_with};
+ghost use Rattle.gdb_server.specs.Commands.{history_text, mark_lines, placed_by, placed_text, settings_with};
 ghost use Rattle.gdb_server.specs.Conduct.{past_after, past_by};
 ghost use Rattle.gdb_server.specs.Writes.{Writes, after_place};
 ghost use Rattle.gdb_past.specs.Places.{AreOfOneMachine};
@@ -180,12 +180,10 @@ fn put_tick(page: &mut Page<256>, tick: u64)
     page.put(b"\n");
 }
 
-/// Returns the ticks of the marks, a line each, and the tick now.
-fn history_text<D: Decider, C: KeptCode, L: Levels, U: DueTicks>(
-    past: &Past<L, U>,
-    machine: &Machine<D, C, L, U>,
-) -> Page<256>
-    ensures { result ≡ history_text past.now machine.now.state }
+/// Returns the ticks of the marks, a line each.
+fn mark_lines<L: Levels, U: DueTicks>(past: &Past<L, U>) -> Page<256>
+    ensures text { result ≡ mark_lines past.now.marks }
+    ensures short { length result ≤ 168 }
 {
     let mut page: Page<256> = Page::new();
     let mut left = past.count();
@@ -193,6 +191,17 @@ fn history_text<D: Decider, C: KeptCode, L: Levels, U: DueTicks>(
         left -= 1;
         put_tick(&mut page, past.tick(left));
     }
+    page
+}
+
+/// Returns the ticks of the marks, a line each, and the tick now.
+fn history_text<D: Decider, C: KeptCode, L: Levels, U: DueTicks>(
+    past: &Past<L, U>,
+    machine: &Machine<D, C, L, U>,
+) -> Page<256>
+    ensures { result ≡ history_text past.now machine.now.state }
+{
+    let mut page = mark_lines(past);
     page.put(b"now ");
     put_tick(&mut page, machine.ticks());
     page

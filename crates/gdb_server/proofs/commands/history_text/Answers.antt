@@ -1,24 +1,7 @@
-use Rattle.std.proofs.Common.{◌≡◌, ◌+◌, ◌*◌, ◌-◌, ◌<◌, ◌≤◌, ◌∙◌, suc, ap, arith, length}
-use Rattle.gdb_past.specs.Places.{tick_of}
-use Rattle.gdb_server.proofs.Marking.{history_ends, no_lines, one_more_line}
+use Rattle.gdb_server.proofs.Marking.{history_ends}
 use Rattle.gdb_server.proofs.commands.history_text.Goals as goal
 
-pub marks-init : goal.marks-init
-marks-init g c = record {
-  lines = c.new-page.ensures ∙ no_lines c.args.past.now.marks c.count-left.result c.count-left.ensures.count;
-  few = omega (arith, c.count-left.ensures.count);
-  room = rw c.new-page.ensures (omega (arith, c.count-left.ensures.few));
-}
-
-pub marks-preserved : goal.marks-preserved
-marks-preserved g c =
-    let left = c.marks.left in
-    let next : left ≡ suc (left - 1) = omega (arith, c.marks-test.true) in
-    record {
-      lines = c.put_tick.ensures.text
-          ∙ one_more_line c.args.past.now.marks left (left - 1) c.tick.result c.args.machine.now.state c.marks.page
-          (omega (arith, c.marks.invariant.few, c.marks-test.true)) next
-          (c.tick.ensures c.args.machine.now.state) c.marks.invariant.lines;
-      few = omega (arith, c.marks.invariant.few);
-      room = omega (arith, c.marks.invariant.room, c.put_tick.ensures.short, c.marks-test.true);
-    }
+pub returns : goal.returns
+returns g c =
+    history_ends c.args.past.now c.args.machine.now.state c.ticks.result c.mark_lines-page.result c.put.new.self
+    c.put_tick.new.page c.mark_lines-page.ensures.text c.put.ensures c.ticks.ensures c.put_tick.ensures.text

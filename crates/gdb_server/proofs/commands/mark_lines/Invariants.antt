@@ -1,6 +1,6 @@
 use Rattle.std.proofs.Common.{◌≡◌, ◌+◌, ◌*◌, ◌≤◌, drop, length}
 use Rattle.gdb_server.specs.Commands.{mark_lines}
-use Rattle.gdb_server.proofs.commands.history_text.Given as goal
+use Rattle.gdb_server.proofs.commands.mark_lines.Given as goal
 
 -- the lines of the first marks
 abbrev pub invariant-marks : goal.invariant-marks
