@@ -1,6 +1,7 @@
 -- Which accesses are to devices.
-use Rattle.std.proofs.Common.{◌≡◌, ℕ, Bool, true, false, not, ◌&&◌, ◌||◌, List, [], ◌∷◌, refl}
-use Rattle.devices.specs.Devices.{DeviceWords}
+use Rattle.std.proofs.Common.{◌≡◌, ℕ, Bool, true, false, not, ◌&&◌, ◌||◌, List, [], ◌∷◌, Some, None, refl}
+use Rattle.devices.specs.Devices.{DeviceWords, position_from}
+use Rattle.devices.proofs.Positions.{first_has, none_have as none_found}
 use Rattle.devices.specs.Laws.{have}
 use Rattle.instruction_set.specs.Sizes.{bytes_in}
 use Rattle.platform.specs.declared.access.Access.{Access}
@@ -45,3 +46,17 @@ no_device b a e =
 pub in_memory : (b : Bus) (a : Access) → is_in_memory b.memory a.address (bytes_in a.size) ≡ true →
     is_to_device b a ≡ false
 in_memory b a e = rw e (not_third (is_load a.kind || is_store a.kind) (have b.system.devices a.address))
+
+-- a load or a store outside memory is to the device that is found
+pub to_found : (b : Bus) (a : Access) (at : ℕ) → (is_load a.kind || is_store a.kind) ≡ true →
+    is_in_memory b.memory a.address (bytes_in a.size) ≡ false →
+    position_from 0 b.system.devices a.address ≡ Some at → is_to_device b a ≡ true
+to_found b a at kind outside e = rw (kind, outside, first_has b.system.devices a.address at e) refl
+
+-- where none is found it is to none
+pub to_none : (b : Bus) (a : Access) → position_from 0 b.system.devices a.address ≡ None → is_to_device b a ≡ false
+to_none b a e =
+    rw (none_found b.system.devices a.address e)
+    (no_third (is_load a.kind || is_store a.kind) (not (is_in_memory b.memory a.address (bytes_in a.size))))
+
+pub ruleset met_lemmas = (in_memory, to_found, to_none)

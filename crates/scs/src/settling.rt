@@ -1,8 +1,8 @@
 //! The board's devices: accesses to them, pokes, and what their lines do to interrupts (profile).
 
-ghost use Rattle.std.specs.Prelude.{◌≡◌, ◌+◌, ◌^◌, ◌<◌, ◌∷◌, ◌&&◌, [], nat_lt, not, true, IfSome};
+ghost use Rattle.std.specs.Prelude.{◌≡◌, ◌+◌, ◌^◌, ◌<◌, ◌∷◌, ◌&&◌, [], nat_lt, not, true, IfSome, Some};
 ghost use Rattle.devices.specs.Laws.{have};
-ghost use Rattle.devices.specs.Devices.{read_at};
+ghost use Rattle.devices.specs.Devices.{position_from, read_at};
 ghost use Rattle.devices.specs.Lines.{drives};
 ghost use Rattle.devices.specs.Pokes.{poked_all};
 ghost use Rattle.instruction_set.specs.Sizes.{bytes_in};
@@ -77,24 +77,33 @@ impl<D: Decider, L: Levels, U: DueTicks> System<D, L, U> {
         self.devices.read(self.clock.now(), address, size)
     }
 
-    /// Carries out a load or a store that a rule granted, to a word of a device. Then the lines settle.
-    #[tactic(auto, using(crate::proofs::Devices::device_leaves), unfolding(platform::specs::System::device_access))]
-    pub fn access_device(&mut self, rule: Rule, request: &Request) -> Performed
-        requires { have self.old.devices request.now.access.address ≡ true }
+    /// Returns the number of the first device that has an address.
+    pub fn device_at(&self, address: u32) -> Option<usize>
+        ensures { result ≡ position_from 0 self.now.devices address }
+    {
+        self.devices.position(address)
+    }
+
+    /// Carries out a load or a store that a rule granted, to a word of the device of this number, the first that has
+    /// the address. Then the lines settle.
+    #[tactic(auto, using(crate::proofs::Devices::device_leaves_at), unfolding(platform::specs::System::device_access))]
+    pub fn access_device(&mut self, at: usize, rule: Rule, request: &Request) -> Performed
+        requires { position_from 0 self.old.devices request.now.access.address ≡ Some at }
         ensures system { self.new ≡ (device_access self.old rule request.now).after }
         ensures performed { result ≡ (device_access self.old rule request.now).performed }
         ensures of_request { IsOf request.now result }
         ensures refused { LeavesUnlessDone result self.old self.new }
     {
         if request.access.kind.is_store() {
-            self.store_to_device(rule, request)
+            self.store_to_device(at, rule, request)
         } else {
-            self.load_from_device(rule, request)
+            self.load_from_device(at, rule, request)
         }
     }
 
-    /// Loads from a device, if one has the address.
-    fn load_from_device(&mut self, rule: Rule, request: &Request) -> Performed
+    /// Loads from the device of this number, the first that has the address.
+    fn load_from_device(&mut self, at: usize, rule: Rule, request: &Request) -> Performed
+        requires { position_from 0 self.old.devices request.now.access.address ≡ Some at }
         ensures system { self.new ≡ (loaded_from_device self.old rule request.now).after }
         ensures performed { result ≡ (loaded_from_device self.old rule request.now).performed }
         ensures of_request { IsOf request.now result }
@@ -102,33 +111,28 @@ impl<D: Decider, L: Levels, U: DueTicks> System<D, L, U> {
         let access = &request.access;
         let value = self
             .devices
-            .load(self.clock.now(), access.address, access.size);
+            .load_at(at, self.clock.now(), access.address, access.size);
         self.settle();
-        match value {
-            Some(value) => Performed::done(rule, value),
-            None => Performed::bus_error(rule),
-        }
+        Performed::done(rule, value)
     }
 
-    /// Stores to a device, if one has the address.
-    fn store_to_device(&mut self, rule: Rule, request: &Request) -> Performed
-        requires { is_store request.now.access.kind ≡ true }
+    /// Stores to the device of this number, the first that has the address.
+    fn store_to_device(&mut self, at: usize, rule: Rule, request: &Request) -> Performed
+        requires there { position_from 0 self.old.devices request.now.access.address ≡ Some at }
+        requires store { is_store request.now.access.kind ≡ true }
         ensures system { self.new ≡ (stored_to_device self.old rule request.now).after }
         ensures performed { result ≡ (stored_to_device self.old rule request.now).performed }
         ensures of_request { IsOf request.now result }
     {
         let access = &request.access;
-        let stored = self.devices.store(
+        let sent = self.devices.store_at(
+            at,
             self.clock.now(),
             access.address,
             access.size,
             request.value,
         );
         self.settle();
-        let sent = match stored {
-            Some(stored) => stored.sent,
-            None => None,
-        };
         Performed::Done(DoneAccess {
             rule,
             value: 0,
@@ -169,6 +173,9 @@ impl<D: Decider, L: Levels, U: DueTicks> System<D, L, U> {
     pub(crate) fn settle(&mut self)
         ensures { self.new ≡ settled self.old }
     {
+        if !self.devices.are_lined() {
+            return;
+        }
         let levels = self.devices.levels(self.clock.now());
         'levels: for level in levels.as_slice() {
             self.take_level(*level);
