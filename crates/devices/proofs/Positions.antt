@@ -123,4 +123,6 @@ pub first_word : (ds : List DeviceWords) (a j : ℕ) (d : DeviceWords) → posit
     word_at ds a ≡ Some (word_in (slice_index_or ds j d) a)
 first_word ds a j d e = (first_of ds a j e).word d
 
-pub ruleset position_lemmas = (none_poked, first_below, first_there, first_pokes, first_word)
+pub ruleset position_lemmas = (none_poked, first_below, first_there, first_pokes)
+
+pub ruleset word_lemmas = (first_below, first_there, first_word)

@@ -1,9 +1,9 @@
 //! The words of a board's devices (profile).
 
-ghost use Rattle.std.specs.Prelude.{◌≡◌, ◌<◌, ◌≤◌, ◌^◌, ◌==◌, ℕ, Some, [], length, option_map};
+ghost use Rattle.std.specs.Prelude.{◌≡◌, ◌<◌, ◌≤◌, ◌^◌, ◌==◌, ℕ, Some, [], length, option_map, slice_index};
 ghost use Rattle.std.specs.Prelude.{not, true, false, IfOk, IfSome};
 ghost use Rattle.instruction_set.specs.Sizes.{bytes_in};
-ghost use Rattle.devices.specs.Table.{has};
+ghost use Rattle.devices.specs.Table.{has, place};
 ghost use Rattle.devices.specs.Copies.{HaveSameDevices};
 ghost use Rattle.devices.specs.Devices.{after_store_at, at_start, content_at, fresh, loaded, poked, poked_by};
 ghost use Rattle.devices.specs.Devices.{position_from, read_at, sent_at, value_at, with_content, word_at};
@@ -158,14 +158,13 @@ impl Devices {
     /// Returns the device of this number, which is the first that has an address, with what is stored in the word
     /// there.
     #[inline]
-    #[tactic(auto, using(crate::proofs::Positions::position_lemmas))]
+    #[tactic(auto, using(crate::proofs::Positions::word_lemmas))]
     fn word_of(&self, at: usize, address: u32) -> (&Device, u32)
         requires { position_from 0 self.now address ≡ Some at }
         ensures { word_at self.now address ≡ Some (record { device = result.0.now; stored = result.1 }) }
     {
         let words = &self.devices[at];
-        let place = words.device.place(address);
-        (&words.device, words.words[place])
+        (&words.device, words.stored(address))
     }
 
     /// Returns the device that has an address, with what is stored in the word there after pokes of that tick.
@@ -239,6 +238,7 @@ impl Devices {
     }
 
     /// Loads from an address, if a device has it, and then pokes what its load pokes.
+    #[tactic(auto, using(crate::proofs::Positions::none_word))]
     pub fn load(&mut self, ticks: u64, address: u32, size: Size) -> Option<u32>
         ensures value { result ≡ read_at self.old ticks address size }
         ensures small { IfSome result (λ value. value < 256 ^ bytes_in size) }
@@ -271,6 +271,7 @@ impl Devices {
     }
 
     /// Stores to an address, if a device has it, and then pokes what its store pokes.
+    #[tactic(auto, using(crate::proofs::Positions::none_word))]
     pub fn store(&mut self, ticks: u64, address: u32, size: Size, value: u32) -> Option<Stored>
         ensures sent { option_map (λ s. s.sent) result ≡ sent_at self.old address value }
         ensures after { self.new ≡ after_store_at self.old ticks address size value }
@@ -424,6 +425,15 @@ impl DeviceWords {
         self.words
             .as_mut_slice()
             .copy_from_slice(other.words.as_slice());
+    }
+
+    /// Returns what is stored in the word at an address.
+    #[inline]
+    fn stored(&self, address: u32) -> u32
+        requires { has self.now.device address ≡ true }
+        ensures { result ≡ slice_index self.now.words (place self.now.device address) }
+    {
+        self.words[self.device.place(address)]
     }
 
     /// Gives the word at an address a content.
