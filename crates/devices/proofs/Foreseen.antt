@@ -88,7 +88,7 @@ one_poke (d ∷ ds) ticks a b v whole =
         ≡ given ticks (if same_word b a then Some v else None) (word_at (d ∷ ds) a)
     by true true true hb ha s rest =
         let same : place d.device b ≡ place d.device a =
-            one_place d.device a b (begins_below d.device a ha) (begins_below d.device b hb) s in
+        one_place d.device a b (begins_below d.device a ha) (begins_below d.device b hb) s in
         rw (
           hb,
           ha,
@@ -156,7 +156,7 @@ given_then ticks (p ∷ ps) a x o w = by (same_word p.address a) (given_then tic
   where
     by : (b : Bool) →
         ((y o : Option ℕ) (w : Option Word) →
-            given ticks (last_poke ps a y) (given ticks o w) ≡ given ticks (last_poke ps a (later y o)) w) →
+        given ticks (last_poke ps a y) (given ticks o w) ≡ given ticks (last_poke ps a (later y o)) w) →
         given ticks (last_poke ps a (if b then Some p.value else x)) (given ticks o w)
         ≡ given ticks (last_poke ps a (if b then Some p.value else later x o)) w
     by true rest = rest (Some p.value) o w
@@ -186,8 +186,8 @@ fresh_whole : (table : List Device) → AreWhole (fresh table)
 fresh_whole [] = tt
 fresh_whole (d ∷ ds) = (
   (let size : d.size % 4 ≡ 0 = d.size_is_whole in
-  let count : length (at_start d).words ≡ d.size / 4 = length-replicate (d.size / 4) d.start in
-  omega arith),
+      let count : length (at_start d).words ≡ d.size / 4 = length-replicate (d.size / 4) d.start in
+      omega arith),
   fresh_whole ds,
 )
 

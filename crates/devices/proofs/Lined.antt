@@ -1,8 +1,8 @@
 -- Whether a device has a line.
-use Rattle.std.proofs.Common.{◌≡◌, ℕ, Bool, true, false, ◌||◌, List, [], ◌∷◌, ◌++◌, Option, Some, None, refl}
+use Rattle.std.proofs.Common.{◌≡◌, ℕ, Bool, true, false, List, [], ◌∷◌, Option, Some, None, refl}
 use Rattle.devices.specs.declared.device.Line.{Line}
 use Rattle.devices.specs.Devices.{DeviceWords, poked, value_at}
-use Rattle.devices.specs.Lines.{are_lined, has_line, level_of, levels, levels_by}
+use Rattle.devices.specs.Lines.{are_lined, levels, levels_by}
 use Rattle.devices.specs.Table.{has}
 
 -- pokes leave the devices, on which the lines are

@@ -169,12 +169,7 @@ impl Devices {
 
     /// Returns the device that has an address, with what is stored in the word there after pokes of that tick.
     #[tactic(auto, using(crate::proofs::Foreseen::foreseen))]
-    fn word_after<P: Pokes>(
-        &self,
-        ticks: u64,
-        pokes: &P,
-        address: u32,
-    ) -> Option<(&Device, u32)>
+    fn word_after<P: Pokes>(&self, ticks: u64, pokes: &P, address: u32) -> Option<(&Device, u32)>
         ensures { option_map (λ w. record { device = w.0.now; stored = w.1 }) result
             ≡ word_at (poked_all self.now ticks (P.pokes pokes.now)) address }
     {
@@ -198,12 +193,7 @@ impl Devices {
 
     /// Returns the value of the word at an address after this many ticks and pokes of the last of them, if a device has
     /// it.
-    pub(crate) fn value_after<P: Pokes>(
-        &self,
-        ticks: u64,
-        pokes: &P,
-        address: u32,
-    ) -> Option<u32>
+    pub(crate) fn value_after<P: Pokes>(&self, ticks: u64, pokes: &P, address: u32) -> Option<u32>
         ensures { result ≡ value_at (poked_all self.now ticks (P.pokes pokes.now)) ticks address }
     {
         match self.word_after(ticks, pokes, address) {

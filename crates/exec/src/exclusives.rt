@@ -135,12 +135,7 @@ fn passes(operands: &StoreExclusive, regs: &Regs) -> bool
 /// Appends the access of an exclusive, which is a fault where it is unaligned, and stops where an access can have a
 /// side effect.
 #[tactic(auto, unfolding(reference::specs::Exclusives::exclusive_access))]
-fn ask(
-    access: Access,
-    value: u32,
-    devices: bool,
-    requests: &mut Requests,
-) -> Result<(), Failure>
+fn ask(access: Access, value: u32, devices: bool, requests: &mut Requests) -> Result<(), Failure>
     requires { requests.old.items ≡ [] }
     ensures { planned requests.new result
         ≡ exclusive_access devices access.kind access.privileged access.size access.address value }

@@ -119,8 +119,8 @@ alone n x (suc k) h =
     elim (eq-or-lt_of_le within) [
       | inl e ↦ subst (λ k. with_pended_below n (λ y. y == x) (suc k) ≡ with_pending n x true) e now
       | inr later ↦
-        (let other : (k == x) ≡ false = grind (arith, nat_tests, later) in
-        rw (alone n x k later, other) refl)
+          (let other : (k == x) ≡ false = grind (arith, nat_tests, later) in
+          rw (alone n x k later, other) refl)
     ]
   where
     now : with_pended_below n (λ y. y == x) (suc x) ≡ with_pending n x true

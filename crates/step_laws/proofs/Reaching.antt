@@ -152,9 +152,9 @@ module _ (es : List DeviceWords) (a : ℕ) where
           unnamed : names w.device.load_poke a ≡ false
           unnamed =
               let parts =
-                  or_parts (is_store q.access.kind && are_of_word q.access.address a)
-                  (pokes_by (word_at es q.access.address) q.access.kind a) (unread tick q rule (read_at s.devices s.time.ticks q.access.address q.access.size)
-                  (rw there refl) none) in
+              or_parts (is_store q.access.kind && are_of_word q.access.address a)
+              (pokes_by (word_at es q.access.address) q.access.kind a) (unread tick q rule (read_at s.devices s.time.ticks q.access.address q.access.size)
+              (rw there refl) none) in
               rw (there, load, e) at
               (pokes_alike s.devices es q.access.address q.access.kind a same ∙ parts.1)
 

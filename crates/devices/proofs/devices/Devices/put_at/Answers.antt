@@ -1,4 +1,4 @@
-use Rattle.std.proofs.Common.{◌∙◌, ap, sym}
+use Rattle.std.proofs.Common.{◌∙◌, ap}
 use Rattle.devices.specs.Devices.{position_from, with_content}
 use Rattle.devices.proofs.Foreseen.{put_fits}
 use Rattle.devices.proofs.devices.Devices.put_at.Goals as goal
