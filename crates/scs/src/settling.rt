@@ -173,9 +173,17 @@ impl<D: Decider, L: Levels, U: DueTicks> System<D, L, U> {
     pub(crate) fn settle(&mut self)
         ensures { self.new ≡ settled self.old }
     {
-        if !self.devices.are_lined() {
-            return;
+        if self.devices.are_lined() {
+            self.settle_lined();
         }
+    }
+
+    /// Does the same where a device has a line. Apart, since a list of levels takes time where no device has one.
+    #[inline(never)]
+    #[tactic(auto, unfolding(platform::specs::System::settled))]
+    fn settle_lined(&mut self)
+        ensures { self.new ≡ settled self.old }
+    {
         let levels = self.devices.levels(self.clock.now());
         'levels: for level in levels.as_slice() {
             self.take_level(*level);

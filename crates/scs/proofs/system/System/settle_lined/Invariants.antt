@@ -1,7 +1,7 @@
 use Rattle.std.proofs.Common.{◌≡◌, drop}
 use Rattle.devices.specs.Lines.{levels}
 use Rattle.platform.specs.System.{with_levels}
-use Rattle.scs.proofs.system.System.settle.Given as goal
+use Rattle.scs.proofs.system.System.settle_lined.Given as goal
 
 -- the levels that are left do the rest
 abbrev pub invariant-levels : goal.invariant-levels
