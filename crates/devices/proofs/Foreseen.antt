@@ -9,12 +9,14 @@ use Rattle.devices.specs.declared.device.Device.{Device}
 use Rattle.devices.specs.declared.device.Poke.{Poke}
 use Rattle.devices.specs.Devices.{DeviceWords, Word, at_start, fresh, poked, position_from, with_content, word_at}
 use Rattle.devices.specs.Laws.{AreWhole, LastPokeDecides, given}
+use Rattle.devices.specs.Apart.{are_apart}
 use Rattle.devices.specs.Lines.{are_lined, levels_by}
 use Rattle.devices.specs.Pokes.{last_poke, poked_all}
 use Rattle.devices.specs.Table.{has, place}
 use Rattle.devices.specs.Words.{stored_for}
 use Rattle.devices.proofs.Lined.{lined_poked}
 use Rattle.devices.proofs.Positions.{first_pokes}
+use Rattle.devices.proofs.Separate.{apart_poked}
 use Rattle.std.proofs.lemmas.List.{length-replicate}
 
 begins_below : (t : Device) (a : ℕ) → has t a ≡ true → t.base ≤ a
@@ -88,7 +90,7 @@ one_poke (d ∷ ds) ticks a b v whole =
         ≡ given ticks (if same_word b a then Some v else None) (word_at (d ∷ ds) a)
     by true true true hb ha s rest =
         let same : place d.device b ≡ place d.device a =
-            one_place d.device a b (begins_below d.device a ha) (begins_below d.device b hb) s in
+        one_place d.device a b (begins_below d.device a ha) (begins_below d.device b hb) s in
         rw (
           hb,
           ha,
@@ -156,7 +158,7 @@ given_then ticks (p ∷ ps) a x o w = by (same_word p.address a) (given_then tic
   where
     by : (b : Bool) →
         ((y o : Option ℕ) (w : Option Word) →
-            given ticks (last_poke ps a y) (given ticks o w) ≡ given ticks (last_poke ps a (later y o)) w) →
+        given ticks (last_poke ps a y) (given ticks o w) ≡ given ticks (last_poke ps a (later y o)) w) →
         given ticks (last_poke ps a (if b then Some p.value else x)) (given ticks o w)
         ≡ given ticks (last_poke ps a (if b then Some p.value else later x o)) w
     by true rest = rest (Some p.value) o w
@@ -186,8 +188,8 @@ fresh_whole : (table : List Device) → AreWhole (fresh table)
 fresh_whole [] = tt
 fresh_whole (d ∷ ds) = (
   (let size : d.size % 4 ≡ 0 = d.size_is_whole in
-  let count : length (at_start d).words ≡ d.size / 4 = length-replicate (d.size / 4) d.start in
-  omega arith),
+      let count : length (at_start d).words ≡ d.size / 4 = length-replicate (d.size / 4) d.start in
+      omega arith),
   fresh_whole ds,
 )
 
@@ -202,17 +204,18 @@ made_whole made n table e =
     first_whole (d ∷ ds) es whole = (whole.0, first_whole ds es whole.1)
 
 -- devices that are as many as there may be, whole, and with lines as said
-abbrev Fit : Bool → List DeviceWords → Type 0
-Fit lined ds = (length ds ≤ 256) × AreWhole ds × (lined ≡ are_lined ds)
+abbrev Fit : Bool → Bool → List DeviceWords → Type 0
+Fit lined apart ds = (length ds ≤ 256) × AreWhole ds × (lined ≡ are_lined ds) × (apart ≡ are_apart ds)
 
 -- one device took a content
-pub put_fits : (lined : Bool) (ds : List DeviceWords) (ticks a v j : ℕ) (d x : DeviceWords) →
-    position_from 0 ds a ≡ Some j → x ≡ with_content (slice_index_or ds j d) ticks a v → Fit lined ds →
-    Fit lined (slice_set ds j x)
-put_fits lined ds ticks a v j d x first e fits = (
+pub put_fits : (lined apart : Bool) (ds : List DeviceWords) (ticks a v j : ℕ) (d x : DeviceWords) →
+    position_from 0 ds a ≡ Some j → x ≡ with_content (slice_index_or ds j d) ticks a v → Fit lined apart ds →
+    Fit lined apart (slice_set ds j x)
+put_fits lined apart ds ticks a v j d x first e fits = (
   (let same = length-set ds j x in rw same fits.0),
   rw (e, first_pokes ds ticks a v j d first) (poke_whole ds ticks a v fits.1),
   rw (e, first_pokes ds ticks a v j d first) (fits.2 ∙ sym (lined_poked ds ticks a v)),
+  rw (e, first_pokes ds ticks a v j d first) (fits.3 ∙ sym (apart_poked ds ticks a v)),
 )
 
 -- pokes leave the devices, on which the lines are

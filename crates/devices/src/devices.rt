@@ -11,6 +11,7 @@ ghost use Rattle.devices.specs.Lines.{are_lined, levels};
 ghost use Rattle.devices.specs.Laws.{have};
 ghost use Rattle.devices.specs.Pokes.{poked_all};
 
+use crate::apart::are_apart;
 use crate::device::{Device, MOST_DEVICES, Poke};
 use crate::part::{covered, in_place, part, sent};
 use crate::pokes::{NoPokes, Pokes};
@@ -18,6 +19,9 @@ use crate::word::{content_after, content_of, stored_for, value_of};
 use instruction_set::size::Size;
 use std::alloc::{AllocError, Global};
 use std::marker::Model;
+
+/// How many places there are for numbers of devices that were met.
+const NEAR: usize = 64;
 
 /// A device, and what is stored for each of its words.
 #[derive(Drop)]
@@ -43,6 +47,10 @@ pub struct Devices {
     devices: Vec<DeviceWords>,
     /// Whether a device has a line.
     lined: bool,
+    /// Whether no two devices have one address.
+    apart: bool,
+    /// Where the device of an address is looked for first, by a few bits of the address. Contracts don't see it.
+    near: [u8; NEAR],
 }
 
 impl Model for Devices {
@@ -50,12 +58,13 @@ impl Model for Devices {
     ghost use Rattle.devices.specs.Devices.{DeviceWords as State};
     ghost use Rattle.devices.specs.Laws.{AreWhole};
     ghost use Rattle.devices.specs.Lines.{are_lined};
+    ghost use Rattle.devices.specs.Apart.{are_apart};
 
     ghost Value = { List State };
 
     ghost view = { λ d. d.devices.items };
 
-    ghost invariant = { λ d. (length d.devices.items ≤ 256) × AreWhole d.devices.items × (d.lined ≡ are_lined d.devices.items) };
+    ghost invariant = { λ d. (length d.devices.items ≤ 256) × AreWhole d.devices.items × (d.lined ≡ are_lined d.devices.items) × (d.apart ≡ are_apart d.devices.items) };
 }
 
 /// What a store to a device sends.
@@ -80,7 +89,13 @@ impl Devices {
             devices.push(DeviceWords::at_start(alloc, device)?)?;
         }
         let lined = are_lined(devices.as_slice());
-        Ok(Devices { devices, lined })
+        let apart = are_apart(devices.as_slice());
+        Ok(Devices {
+            devices,
+            lined,
+            apart,
+            near: [0; NEAR],
+        })
     }
 
     /// Returns a copy. Fails where memory can't be allocated.
@@ -94,6 +109,8 @@ impl Devices {
         Ok(Devices {
             devices,
             lined: self.lined,
+            apart: self.apart,
+            near: [0; NEAR],
         })
     }
 
@@ -104,6 +121,7 @@ impl Devices {
     {
         copy_words(self.devices.as_mut_slice(), other.devices.as_slice());
         self.lined = other.lined;
+        self.apart = other.apart;
     }
 
     /// Returns the devices, in the order of the board.
@@ -169,12 +187,7 @@ impl Devices {
 
     /// Returns the device that has an address, with what is stored in the word there after pokes of that tick.
     #[tactic(auto, using(crate::proofs::Foreseen::foreseen))]
-    fn word_after<P: Pokes>(
-        &self,
-        ticks: u64,
-        pokes: &P,
-        address: u32,
-    ) -> Option<(&Device, u32)>
+    fn word_after<P: Pokes>(&self, ticks: u64, pokes: &P, address: u32) -> Option<(&Device, u32)>
         ensures { option_map (λ w. record { device = w.0.now; stored = w.1 }) result
             ≡ word_at (poked_all self.now ticks (P.pokes pokes.now)) address }
     {
@@ -198,12 +211,7 @@ impl Devices {
 
     /// Returns the value of the word at an address after this many ticks and pokes of the last of them, if a device has
     /// it.
-    pub(crate) fn value_after<P: Pokes>(
-        &self,
-        ticks: u64,
-        pokes: &P,
-        address: u32,
-    ) -> Option<u32>
+    pub(crate) fn value_after<P: Pokes>(&self, ticks: u64, pokes: &P, address: u32) -> Option<u32>
         ensures { result ≡ value_at (poked_all self.now ticks (P.pokes pokes.now)) ticks address }
     {
         match self.word_after(ticks, pokes, address) {
@@ -252,6 +260,7 @@ impl Devices {
 
     /// Loads from an address that the device of this number has, the first that has it, and then pokes what its load
     /// pokes.
+    #[tactic(auto, using(crate::proofs::Positions::first_below))]
     pub fn load_at(&mut self, at: usize, ticks: u64, address: u32, size: Size) -> u32
         requires { position_from 0 self.old address ≡ Some at }
         ensures value { read_at self.old ticks address size ≡ Some result }
@@ -266,6 +275,7 @@ impl Devices {
             None => content,
         };
         let value = value_of(device, content, followed);
+        self.keep_near(at, address);
         self.poke_by(ticks, poke);
         part(address, size, value)
     }
@@ -286,6 +296,7 @@ impl Devices {
 
     /// Stores to an address that the device of this number has, the first that has it, and then pokes what its store
     /// pokes. Returns the byte that goes to the console, if one does.
+    #[tactic(auto, using(crate::proofs::Positions::first_below))]
     pub fn store_at(
         &mut self,
         at: usize,
@@ -308,6 +319,7 @@ impl Devices {
         );
         let store_poke = device.store_poke;
         let sent = sent(device, address, value);
+        self.keep_near(at, address);
         self.put_at(at, ticks, address, content);
         self.poke_by(ticks, store_poke);
         sent
@@ -359,7 +371,28 @@ impl Devices {
     }
 
     /// Returns the number of the first device that has an address.
+    #[tactic(auto, using(crate::proofs::Separate::near_is_first))]
     pub fn position(&self, address: u32) -> Option<usize>
+        ensures { result ≡ position_from 0 self.now address }
+    {
+        let near = usize::from(self.near[place_near(address)]);
+        if self.apart && near < self.devices.len() && self.devices[near].device.has(address) {
+            return Some(near);
+        }
+        self.search(address)
+    }
+
+    /// Notes where the device of an address is.
+    #[inline]
+    fn keep_near(&mut self, at: usize, address: u32)
+        requires { at < length self.old }
+        ensures { self.new ≡ self.old }
+    {
+        self.near[place_near(address)] = at as u8;
+    }
+
+    /// Returns the same, device by device.
+    fn search(&self, address: u32) -> Option<usize>
         ensures { result ≡ position_from 0 self.now address }
     {
         'devices: for (at, device) in self.devices.as_slice().iter().enumerate() {
@@ -369,6 +402,14 @@ impl Devices {
         }
         None
     }
+}
+
+/// Returns the place at which the device of an address is noted.
+#[inline]
+fn place_near(address: u32) -> usize
+    ensures { result < 64 }
+{
+    ((address / 4 ^ address / 1024) % 64) as usize
 }
 
 /// Returns whether one of some devices has a line.

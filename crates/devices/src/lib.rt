@@ -1,6 +1,7 @@
 //! Devices that a board describes (profile): words that read as, and keep, what the board says of them.
 #![tactic(auto)]
 
+mod apart;
 mod device;
 mod devices;
 pub mod laws;
