@@ -17,7 +17,7 @@ ONLY = int(sys.argv[6]) if len(sys.argv) > 6 else None
 
 # How marm ends after a case, and how many cases are printed and how many runs there are side by side.
 LAST, LOCKUP = "stop breakpoint 171", "stop lockup"
-MOST_PRINTED = 10
+MAX_PRINTED = 10
 JOBS = 2
 
 
@@ -89,7 +89,7 @@ for number in sorted(theirs):
     if difference is not None:
         differ.append(number)
         print(f"case {number}: {difference}")
-    if difference is not None and len(differ) <= MOST_PRINTED or ONLY is not None:
+    if difference is not None and len(differ) <= MAX_PRINTED or ONLY is not None:
         printed(number, cases[number], (ours[number][0], ours[number][1]), theirs[number])
 for number in cases if ONLY is not None else []:
     print("\n".join(ours[number][2]))
@@ -100,7 +100,7 @@ for name, count in known.most_common():
     print(f"{count:7} {name}: {KNOWN[name]}")
 covered([ours[number][1] for number in theirs])
 records = sum(len(ours[number][1]) for number in theirs)
-if len(differ) > MOST_PRINTED:
-    print("differ too: " + " ".join(map(str, differ[MOST_PRINTED:])))
+if len(differ) > MAX_PRINTED:
+    print("differ too: " + " ".join(map(str, differ[MAX_PRINTED:])))
 print(f"exceptions: {len(theirs)} cases with {records} records compared, of them {len(locked)} lockups, {len(differ)} differ")
 sys.exit(1 if differ else 0)

@@ -5,7 +5,7 @@ import exception_code as code
 
 # As in exceptions.s.
 CODE, WINDOW, VECTORS, PSP_TOP, TOP = 0x20000400, 0x20000800, 0x20000200, 0x20000C00, 0x20001800
-MOST_ACTIONS = 5
+MAX_ACTIONS = 5
 
 CCR, AIRCR, SHCSR, VTOR = 0xE000ED14, 0xE000ED0C, 0xE000ED24, 0xE000ED08
 SHPR, IPR, ISER = 0xE000ED18, 0xE000E400, 0xE000E100
@@ -44,7 +44,7 @@ class Case:
         lines = [f"entry{number}:", " .word " + ", ".join(f"{word:#x}" for word in words)]
         for exception in self.actions:
             lines.append(f" .word {exception}, CODE + 1 + (action{number}_{exception} - entry{number})")
-        lines += [" .word 0, 0"] * (MOST_ACTIONS - len(self.actions))
+        lines += [" .word 0, 0"] * (MAX_ACTIONS - len(self.actions))
         lines += [f" .word {address:#x}, {value}" for address, value in self.settings] + [" .word 0"]
         lines += [f" .space 0x200 - (. - entry{number})"] + self.thread + [" ldr pc, =finish_thread", " .ltorg"]
         for exception, action in self.actions.items():
@@ -173,7 +173,7 @@ def random_case(source):
     kinds = source.choice([faults, faults, code.TRIGGERS, code.TRIGGERS, faults + code.TRIGGERS + [code.mask, code.sound]])
     case.thread = pieces(source, kinds, source.choice([1, 1, 2, 3]))
     if source.random() < 0.7:
-        for _ in range(source.randrange(1, MOST_ACTIONS + 1)):
+        for _ in range(source.randrange(1, MAX_ACTIONS + 1)):
             case.actions[source.choice(LIKELY)] = random_action(source, faults)
     return case
 

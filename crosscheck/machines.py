@@ -17,7 +17,7 @@ LAST = "stop breakpoint 171"
 
 # How many cases a run has at most, and how many runs may end early.
 PART = 1500
-MOST_ENDED_EARLY = 100
+MAX_ENDED_EARLY = 100
 
 # The line of a case that has none.
 NOTHING = "nothing"
@@ -83,7 +83,7 @@ def side_by_side(run, other_run, entry, cases, most=PART):
         if both < len(part):
             ended_early += 1
             found, other_found = (list(left[: both + 1]) + [NOTHING] * (both >= len(left)) for left in (found, other_found))
-        if ended_early > MOST_ENDED_EARLY:
+        if ended_early > MAX_ENDED_EARLY:
             sys.exit(f"{ended_early} runs ended early: one of the machines doesn't run its harness")
         lines += found
         other_lines += other_found

@@ -15,9 +15,9 @@ KINDS = {"F": "fetch", "L": "load", "S": "store", "K": "push", "U": "pop", "V": 
 OUTCOMES = {"ok": "granted", "mpu": "mpu", "bus": "bus"}
 OTHER_RULES = "off|bg|none|neg|xn|ppb|vec"
 FIGURES = ("accesses", "refused", "handlers", "console-bytes")
-MOST_BYTES = 2 << 20
-MOST_COLUMNS = 8
-MOST_SHARES = 64
+MAX_BYTES = 2 << 20
+MAX_COLUMNS = 8
+MAX_SHARES = 64
 CHROMIUM = ["chromium", "--headless", "--no-sandbox", "--disable-gpu", "--hide-scrollbars", "--enable-logging=stderr"]
 
 
@@ -101,7 +101,7 @@ def cell_of(world, rights, first):
     worlds that may read what it may write, and of those that may write what it may read."""
     here = {number: letters for number, spans in rights.items() for (low, high), letters in spans.items()
             if low <= first <= high}
-    others = [number for number in here if number != world and number <= MOST_COLUMNS and first >> 28 == 2]
+    others = [number for number in here if number != world and number <= MAX_COLUMNS and first >> 28 == 2]
     to = [number for number in others if here[world][1] == "w" and (here[number][0] == "r" or here[number][2] == "x")]
     back = [number for number in others if here[number][1] == "w" and (here[world][0] == "r" or here[world][2] == "x")]
     return " ".join([here[world], *(["→", *map(str, to)] if to else []), *(["←", *map(str, back)] if back else [])])
@@ -110,7 +110,7 @@ def cell_of(world, rights, first):
 def differing_worlds(page, text):
     """Returns what is wrong with the part about worlds, as lines, and how many cells it has."""
     steps, rights, shared = worlds_of(text)
-    columns = [world for world in sorted(steps) if world <= MOST_COLUMNS]
+    columns = [world for world in sorted(steps) if world <= MAX_COLUMNS]
     wrong = [f"world {world}: {page.numbers.get(f'world-{world}')} steps on the page, {steps[world]} by tasks"
              for world in columns if page.numbers.get(f"world-{world}") != steps[world]]
     rows = [name for name in page.attributes if name.startswith("may-")]
@@ -124,7 +124,7 @@ def differing_worlds(page, text):
                   if first < begin <= last and [cell_of(world, rights, begin) for world in columns] != wanted]
     shown = [tuple(page.attributes[name][f"data-{key}"] for key in ("writer", "reader", "first", "last"))
              for name in page.attributes if name.startswith("shares-")]
-    if shown != shared[:MOST_SHARES]:
+    if shown != shared[:MAX_SHARES]:
         wrong.append(f"shared: {shown} on the page, {shared} by tasks")
     return wrong, len(rows) * len(columns)
 
@@ -142,7 +142,7 @@ def differences(path, trace, tasks):
     page.feed(dom)
     found, last, stop = counted(trace)
     wrong = console + page.outside
-    if os.path.getsize(path) > MOST_BYTES:
+    if os.path.getsize(path) > MAX_BYTES:
         wrong.append(f"{os.path.getsize(path)} bytes")
     if page.texts.get("stop") != stop:
         wrong.append(f"the page ends with {page.texts.get('stop')}, the trace with {stop}")

@@ -54,8 +54,8 @@ llvm-readelf llvm-objdump llvm-mc llvm-objcopy qemu-system-arm readelf awk date 
 
 # the commands of gdb and its packets, on the pages about it
 GDB_PAGES = re.compile("docs/GDB.md|crates/(gdb\\w*|test_gdb)/README.md")
-GDB_COMMANDS = set("""G break hbreak tbreak step stepi next until advance finish continue info set jump call print x bt load
-detach disconnect kill quit monitor place target maintenance on off""".split())
+GDB_COMMANDS = set("""G reverse-stepi reverse-continue break hbreak tbreak step stepi next until advance finish continue info set jump
+call print x bt load detach disconnect kill quit monitor place target maintenance on off""".split())
 
 # what `rt` takes: its words and options
 RT_WORDS = set("""check ci test try lib lemma fmt tidy plant must-fail version doc run new verdict all names help --only
@@ -420,7 +420,7 @@ def lists(repo):
 
 
 # how many lines docs/*.md and the pages at the top may have together, so that somebody can still read them all
-MOST_LINES = 4000
+MAX_LINES = 4000
 
 # where the help lists the debugger's commands
 HELP_OF_DEBUG = "crates/command_line/src/texts.rt"
@@ -475,7 +475,7 @@ def debugger_commands():
 def stops():
     """Returns which lists of the named stops leave one out: docs/STOPS.md, or the images of test_runs."""
     text = read("crates/platform/specs/Text.antt")
-    defined = re.findall(r'^(?:unpredictable|left_out)_text \w+ = codes "([\w-]+)"', text, re.M)
+    defined = re.findall(r'^(?:unpredictable|unsupported)_text \w+ = codes "([\w-]+)"', text, re.M)
     parts = read("docs/STOPS.md").split("\n## ")
     listed = [name for part in parts if " NAME`." in part for name in re.findall(r"^\| `([\w-]+)` \|", part, re.M)]
     tested = re.findall(r"^out stop (?:unpredictable|outofprofile) ([\w-]+)", read(IMAGES_OF_STOPS), re.M)
@@ -489,10 +489,10 @@ def length():
     counted = {os.path.relpath(path, TOP): read(path).count("\n")
                for pattern in ("docs/*.md", "*.md") for path in glob.glob(os.path.join(TOP, pattern))}
     lines = sum(counted.values())
-    if lines > MOST_LINES:
+    if lines > MAX_LINES:
         longest = ", ".join(f"{page} {counted[page]}" for page in sorted(counted, key=counted.get, reverse=True)[:5])
-        yield (f"docs/*.md and the pages at the top have {lines:,} lines together, and may have {MOST_LINES:,}: "
-               f"delete {lines - MOST_LINES:,} (the longest are {longest})")
+        yield (f"docs/*.md and the pages at the top have {lines:,} lines together, and may have {MAX_LINES:,}: "
+               f"delete {lines - MAX_LINES:,} (the longest are {longest})")
 
 
 def pages():

@@ -1,7 +1,7 @@
 """What a run and a session need at most, as docs/ROBUSTNESS.md says: stack, address space, processor time."""
 
 # KiB of stack: without its board, for a byte of the board's file, and at most.
-STACK, STACK_OF_BOARD, MOST_STACK = 192, 0.25, 2048
+STACK, STACK_OF_BOARD, MAX_STACK = 192, 0.25, 2048
 
 # KiB of address space: of the program with 2 MiB of flash and RAM and 14 MiB of kept instructions, for a byte of the
 # image's file, and of the board's.
@@ -13,7 +13,7 @@ START, WRITTEN, STEP, READ = 0.5, 1e-6, 20e-6, 10e-6
 
 def limits(image, board):
     """Returns the limits of a run or a session, as options of the shell's `ulimit`."""
-    stack = min(STACK + STACK_OF_BOARD * len(board), MOST_STACK)
+    stack = min(STACK + STACK_OF_BOARD * len(board), MAX_STACK)
     space = SPACE + SPACE_OF_IMAGE * len(image) + SPACE_OF_BOARD * len(board)
     return [f"-s {int(stack)}", f"-v {int(space)}"]
 

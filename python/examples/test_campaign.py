@@ -19,7 +19,7 @@ IMAGE = str(FIRMWARE / "checksum.elf")
 REGISTERS = [*(f"r{k}" for k in range(13)), "sp", "lr", "pc"]
 RAM = [*range(0x2000_0000, 0x2000_0060, 4), *range(0x2000_03E0, 0x2000_0400, 4)]  # the table, and the stack
 OUTCOMES = ("same output", "wrong output", "refused by the MPU", "other fault", "other stop", "hang")
-MOST_STEPS = 20_000  # more than ten times the undisturbed run
+MAX_STEPS = 20_000  # more than ten times the undisturbed run
 COLUMNS = 64
 
 
@@ -60,7 +60,7 @@ def outcome(m: marm.Machine, flip: Flip) -> str:
         m.regs[flip.where] ^= 1 << flip.bit
     else:
         m.write_word(flip.where, m.read_word(flip.where) ^ 1 << flip.bit)
-    ran = m.run(MOST_STEPS, marm.FAULT, trace="refused")
+    ran = m.run(MAX_STEPS, marm.FAULT, trace="refused")
     if ran.why == "fault":
         refused = any(isinstance(event, marm.Access) and event.outcome == "mpu" for event in ran.events)
         return "refused by the MPU" if refused else "other fault"
@@ -74,7 +74,7 @@ def outcome(m: marm.Machine, flip: Flip) -> str:
 def undisturbed() -> int:
     """Returns how many ticks the undisturbed run takes."""
     with marm.Machine(IMAGE, CHECKSUM_BOARD) as m:
-        ran = m.run(MOST_STEPS)
+        ran = m.run(MAX_STEPS)
         assert str(ran.stop) == "breakpoint 0" and ran.console == expected(), ran
         return ran.tick
 
@@ -98,7 +98,7 @@ def chart(results: list[marm.Result], ticks: int) -> str:
 @needs_program
 class Campaign(unittest.TestCase):
     def test_the_undisturbed_run(self) -> None:
-        self.assertGreater(MOST_STEPS, 10 * undisturbed())
+        self.assertGreater(MAX_STEPS, 10 * undisturbed())
 
     def test_in_parallel(self) -> None:
         """Two processes find what one does, and each outcome is one of those named."""

@@ -120,7 +120,7 @@ class Batch:
         """Makes a step, with all lines of its trace."""
         return self.run(1, trace="all")
 
-    def run(self, steps: int = requests.MOST_STEPS, until: Until = None, trace: str = "console") -> Later[Ran]:
+    def run(self, steps: int = requests.MAX_STEPS, until: Until = None, trace: str = "console") -> Later[Ran]:
         """Makes up to `steps` steps, 1 to 1,000,000."""
         conditions = conditions_of(until, self._address_of)
         return self._add(requests.running(self._session, steps, conditions, trace))

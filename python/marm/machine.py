@@ -26,7 +26,7 @@ Image = Union[bytes, Path]
 STEPS_OF_A_PART = 100_000  # of a long run, so that each answer comes soon
 STEPS_OF_A_TRACED_PART = 20_000
 OWN_SLOTS = 2  # the start, and the walk's
-MOST_SLOTS = 8
+MAX_SLOTS = 8
 
 
 class Machine:
@@ -46,8 +46,8 @@ class Machine:
 
         NoProgram where the program isn't there, StartError where it refuses image, board or arguments, ProtocolError
         where it knows no scripts."""
-        if not 0 <= slots <= MOST_SLOTS - OWN_SLOTS:
-            raise ValueError(f"{slots} slots: not 0 to {MOST_SLOTS - OWN_SLOTS}")
+        if not 0 <= slots <= MAX_SLOTS - OWN_SLOTS:
+            raise ValueError(f"{slots} slots: not 0 to {MAX_SLOTS - OWN_SLOTS}")
         command = [*find_program(program), "debug", "--slots", str(slots + OWN_SLOTS)]
         self.image: Union[bytes, str] = image if isinstance(image, bytes) else os.fspath(image)
         board_file: Union[bytes, str] = board.toml().encode() if isinstance(board, Board) else os.fspath(board)

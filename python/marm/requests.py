@@ -15,7 +15,7 @@ from .session import Request, Saved, Session, Settings
 from .wire import Answer
 
 BYTES_OF_A_COMMAND = 256
-MOST_STEPS = 1_000_000  # of one command
+MAX_STEPS = 1_000_000  # of one command
 SHORT_RUN = 1_000  # steps
 GRANULE = 32  # each region and each subregion begins and ends at a multiple of it
 TRACES = ("all", "refused", "exceptions", "console")
@@ -154,8 +154,8 @@ def running(
     """Makes up to `steps` steps, at most 1,000,000, after the commands `before`, which leave the clock."""
     if trace not in TRACES:
         raise ValueError(f"trace {trace!r}: not one of {', '.join(TRACES)}")
-    if not 1 <= steps <= MOST_STEPS:
-        raise ValueError(f"{steps} steps: not 1 to {MOST_STEPS:,}")
+    if not 1 <= steps <= MAX_STEPS:
+        raise ValueError(f"{steps} steps: not 1 to {MAX_STEPS:,}")
 
     def read(answers: Sequence[Answer]) -> Ran:
         ran = _ran(answers[-1], conditions, int(session.end_before.partition(" ")[0]))

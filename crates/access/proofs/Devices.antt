@@ -1,6 +1,8 @@
 -- Which accesses are to devices.
-use Rattle.std.proofs.Common.{◌≡◌, ℕ, Bool, true, false, not, ◌&&◌, ◌||◌, List, [], ◌∷◌, refl}
-use Rattle.devices.specs.Devices.{DeviceWords}
+use Rattle.std.proofs.Common.{◌≡◌, ℕ, Bool, true, false, not, ◌&&◌, ◌||◌, List, [], ◌∷◌, Option, Some, None}
+use Rattle.std.proofs.Common.{is_some, refl, sym}
+use Rattle.devices.specs.Devices.{DeviceWords, position_from}
+use Rattle.devices.proofs.Positions.{first_has, none_have as none_found}
 use Rattle.devices.specs.Laws.{have}
 use Rattle.instruction_set.specs.Sizes.{bytes_in}
 use Rattle.platform.specs.declared.access.Access.{Access}
@@ -45,3 +47,9 @@ no_device b a e =
 pub in_memory : (b : Bus) (a : Access) → is_in_memory b.memory a.address (bytes_in a.size) ≡ true →
     is_to_device b a ≡ false
 in_memory b a e = rw e (not_third (is_load a.kind || is_store a.kind) (have b.system.devices a.address))
+
+-- a device is found where one has the address
+pub some_where_had : (ds : List DeviceWords) (a : ℕ) (at : Option ℕ) → at ≡ position_from 0 ds a →
+    is_some at ≡ have ds a
+some_where_had ds a None e = sym (none_found ds a (sym e))
+some_where_had ds a (Some k) e = sym (first_has ds a k (sym e))

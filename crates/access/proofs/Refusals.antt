@@ -12,7 +12,7 @@ use Rattle.platform.specs.Kinds.{is_probe, is_write}
 use Rattle.platform.specs.Map.{is_in_ppb, is_in_window}
 use Rattle.platform.specs.Memory.{Memory, is_writable_at}
 use Rattle.platform.specs.Outcomes.{LeavesUnlessDone, Outcome, within}
-use Rattle.platform.specs.Space.{written_to, written_to_window, space_access}
+use Rattle.platform.specs.Space.{written_to, written_to_window, memory_access}
 use Rattle.reference.specs.State.{Bus}
 use Rattle.access.proofs.Devices.{device_there}
 use Rattle.scs.proofs.Devices.{device_leaves}
@@ -42,8 +42,8 @@ writing_keeps m rule q =
     cond_both (is_in_window q.access.address) _ _ (Keeps m) (λ f. unchanged_keeps m (written_to_window rule q))
     (λ f. cond_both (is_writable_at m q.access.address (bytes_in q.access.size)) _ _ (Keeps m) (λ g. tt) (λ g. refl))
 
-space_keeps : (m : Memory) (ticks : ℕ) (rule : Rule) (q : Request) → Keeps m (space_access m ticks rule q)
-unfolding space_access
+space_keeps : (m : Memory) (ticks : ℕ) (rule : Rule) (q : Request) → Keeps m (memory_access m ticks rule q)
+unfolding memory_access
 space_keeps m ticks rule q =
     cond_both (is_write q.access.kind) _ _ (Keeps m) (λ f. writing_keeps m rule q) (λ f. unchanged_keeps m _)
 

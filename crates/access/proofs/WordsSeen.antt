@@ -1,6 +1,6 @@
 -- What the bus would return to a load of a word by privileged code.
 use Rattle.std.proofs.Common.{◌≡◌, ℕ, ◌/◌, ◌*◌, ◌^◌, ◌<◌, ◌==◌, Bool, true, false, Option, Some}
-use Rattle.std.proofs.Common.{None, if◌then◌else◌, not, ◌&&◌, refl, sym, ◌∙◌, ap, arith}
+use Rattle.std.proofs.Common.{None, if◌then◌else◌, not, ◌&&◌, refl, sym, ap, arith}
 use Rattle.devices.specs.Devices.{read_at}
 use Rattle.devices.specs.Laws.{have}
 use Rattle.instruction_set.specs.declared.size.Size.TheVariants.{Word}
@@ -10,9 +10,10 @@ use Rattle.platform.specs.declared.system.SystemRegister.TheVariants as register
 use Rattle.access.specs.Seen.{value_read, word_load, word_of_window, word_outside, word_seen}
 use Rattle.platform.specs.Map.{is_in_ppb, is_in_window, tick_register}
 use Rattle.platform.specs.Memory.{Memory, is_in_memory, number_at}
-use Rattle.platform.specs.Outcomes.{bus_error, done, within}
-use Rattle.platform.specs.Space.{number_read, read_from, space_access}
-use Rattle.platform.specs.System.{System, device_access, has_width, part_of, register_access, register_at, system_access, word_at}
+use Rattle.platform.specs.Outcomes.{done, within}
+use Rattle.platform.specs.Space.{number_read, read_from, memory_access}
+use Rattle.platform.specs.System.{System, device_access, has_width, part_of, register_access, register_at}
+use Rattle.platform.specs.System.{system_access, word_at}
 use Rattle.reference.specs.Accesses.{carried_out}
 use Rattle.reference.specs.State.{Bus}
 
@@ -28,7 +29,8 @@ takes_words (register.Mpu which) = refl
 takes_words register.Unlisted = refl
 
 register_read : (x : ℕ) (s : System) (a : ℕ) (which : SystemRegister)
-    → (register_access x s MpuOff (word_load a) which).performed ≡ done MpuOff (part_of (word_load a) (word_at x s which))
+    → (register_access x s MpuOff (word_load a) which).performed
+    ≡ done MpuOff (part_of (word_load a) (word_at x s which))
 unfolding register_access
 register_read x s a which = rw (takes_words which) refl
 
@@ -56,7 +58,7 @@ read_outside m ticks a true false w t = rw (w, t) refl
 read_outside m ticks a false tick w t = rw w (number_seen (number_at m a 4))
 
 pub seen_elsewhere : (x : ℕ) (b : Bus) (a : ℕ) → is_in_ppb a ≡ false → word_outside b a ≡ word_seen x b a
-unfolding word_seen carried_out space_access device_access
+unfolding word_seen carried_out memory_access device_access
 seen_elsewhere x b a ppb = rw ppb (by (not (is_in_memory b.memory a 4) && have b.system.devices a))
   where
     by : (device : Bool)
@@ -65,7 +67,7 @@ seen_elsewhere x b a ppb = rw ppb (by (not (is_in_memory b.memory a 4) && have b
         ≡ value_read (if device
         then within (λ system. record b { system = system }) (device_access b.system MpuOff (word_load a))
         else within (λ memory. record b { memory = memory })
-        (space_access b.memory b.system.time.ticks MpuOff (word_load a))).performed
+        (memory_access b.memory b.system.time.ticks MpuOff (word_load a))).performed
     by true = sym (number_seen (read_at b.system.devices b.system.time.ticks a Word))
     by false =
         sym (read_outside b.memory b.system.time.ticks a (is_in_window a) (a == tick_register) refl refl)

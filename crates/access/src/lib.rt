@@ -8,12 +8,12 @@ pub mod laws;
 mod seeing;
 
 pub use bus::{Bus, fetch_at};
-pub use clock::{Ahead, Counting, DueTicks, Script, ScriptedEvent, SysTick};
+pub use clock::{EagerSysTick, LazySysTick, Script, ScriptedEvent, SysTick, SysTickState};
 pub use code_memory::CodeMemory;
 pub use instruction_set::size::Size;
 pub use kept_code::KeptCode;
 pub use mpu::{Decider, GrantedSpan, Search};
-pub use nvic::{Levels, PlainLevels};
+pub use nvic::{Exceptions, PlainExceptions};
 pub use platform::access::{Cause, Decision, DoneAccess, Kind, Performed, Request, Rule};
 pub use platform::stop::Stop;
 pub use scs::{System, SystemCopy};

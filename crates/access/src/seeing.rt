@@ -1,22 +1,20 @@
 //! The words of the address space, without the effect that a load may have.
 
-ghost use Rattle.std.specs.Prelude.{◌≡◌, ◌/◌, ◌*◌, ◌&&◌, not};
+ghost use Rattle.std.specs.Prelude.{◌≡◌, ◌/◌, ◌*◌};
 ghost use Rattle.access.specs.Seen.{word_of_window, word_outside, word_seen};
-ghost use Rattle.devices.specs.Laws.{have};
-ghost use Rattle.platform.specs.Memory.{is_in_memory};
 
 use crate::bus::Bus;
-use clock::DueTicks;
+use clock::SysTickState;
 use instruction_set::size::Size;
 use kept_code::KeptCode;
 use mpu::Decider;
-use nvic::Levels;
+use nvic::Exceptions;
 use platform::map::{is_in_ppb, is_in_window};
 
 /// The register of the device window that reads as the low 32 bits of the number of ticks.
 const TICK: u32 = 0x4000_0004;
 
-impl<D: Decider, C: KeptCode, L: Levels, U: DueTicks> Bus<D, C, L, U> {
+impl<D: Decider, C: KeptCode, L: Exceptions, U: SysTickState> Bus<D, C, L, U> {
     /// Returns the word that a load by privileged code would return now at an address divisible by 4, while IPSR is
     /// `exception`, and None where the bus would refuse the load. The MPU isn't asked, and nothing changes: COUNTFLAG
     /// stays.
@@ -36,20 +34,13 @@ impl<D: Decider, C: KeptCode, L: Levels, U: DueTicks> Bus<D, C, L, U> {
     fn look_outside(&self, address: u32) -> Option<u32>
         ensures { result ≡ word_outside self.now address }
     {
-        if self.is_in_device(address) {
+        if self.device_outside_memory(address, Size::Word).is_some() {
             return self.system.look_at_device(address, Size::Word);
         }
         if is_in_window(address) {
             return self.look_at_window(address);
         }
         self.space().number(address, Size::Word)
-    }
-
-    /// Returns whether a device has the word at an address, and memory doesn't have it.
-    fn is_in_device(&self, address: u32) -> bool
-        ensures { result ≡ (not (is_in_memory self.now.memory address 4) && have self.now.system.devices address) }
-    {
-        !self.space().is_in_memory(address, 4) && self.system.has_device(address)
     }
 
     /// Returns the word that the device window has at an address: TICK alone can be read.

@@ -3,7 +3,7 @@ use Rattle.std.proofs.Common.{◌≡◌, ◌↔◌, ℕ, ◌+◌, ◌<◌, ◌�
 use Rattle.std.proofs.Common.{◌++◌, length, take, get_or, arith, refl, sym, ap, ◌∙◌, ◌⊎◌}
 use Rattle.std.proofs.Common.{◌&&◌, nat_le, inl, inr}
 use Rattle.std.proofs.lemmas.List.Folds.{list_any-append, list_any_more}
-use Rattle.access_map.specs.Sharing.{covers, has_address, is_in_ram, is_channel, is_shared, AreApart, AreShared}
+use Rattle.access_map.specs.Sharing.{covers, has_address, is_in_ram, is_channel, is_shared, AreWorldsApart, AreShared}
 use Rattle.access_map.specs.Sharing.{RiseFrom}
 use Rattle.access_map.specs.Stretches.{span_of, with_stretch}
 use Rattle.access_map.specs.Worlds.{end_of, is_in_place}
@@ -284,7 +284,7 @@ none_covers (x ∷ xs) a rise none =
 -- two worlds are apart exactly where both lists are empty
 pub apart_exactly : (board : Numbers) (v w : World) (allowed there back : List Span)
     → AreShared board v w allowed there → AreShared board w v allowed back
-    → AreApart board v w allowed ↔ ((there ≡ []) × (back ≡ []))
+    → AreWorldsApart board v w allowed ↔ ((there ≡ []) × (back ≡ []))
 apart_exactly board v w allowed there back forth home = (
   (λ apart. (
     none_covers there 0 forth.rising (λ a. forth.exactly a ∙ (apart a).0),

@@ -14,8 +14,8 @@ pub record Worlds : Type 0 where
   pub others : ℕ
 
 -- how many rows there are at most
-abbrev pub most_worlds : ℕ
-most_worlds = 64
+abbrev pub max_worlds : ℕ
+max_worlds = 64
 
 -- a number stays at its highest value, 2^64 - 1
 abbrev pub one_more : ℕ → ℕ
@@ -36,7 +36,7 @@ first_row w tick pc = record { world = w; steps = 1; tick = tick; pc = pc; lowes
 -- no worlds: each place has the row of a world that is off, which is no row yet
 abbrev pub no_worlds : Worlds
 no_worlds = record {
-  rows = replicate most_worlds (first_row (record { registers = fresh 8; below_zero = false }) 0 0);
+  rows = replicate max_worlds (first_row (record { registers = fresh 8; below_zero = false }) 0 0);
   used = 0;
   others = 0;
 }
@@ -52,7 +52,7 @@ counted_row row pc = record row {
 -- a new row where there is a place for it; otherwise the step is one of the others
 abbrev pub added : Worlds → World → ℕ → ℕ → Worlds
 added s w tick pc =
-    if nat_lt s.used most_worlds
+    if nat_lt s.used max_worlds
     then record s { rows = slice_set s.rows s.used (first_row w tick pc); used = s.used + 1 }
     else record s { others = one_more s.others }
 

@@ -47,6 +47,6 @@ abbrev pub SharesAny : Numbers → World → World → List Span → Type 0
 SharesAny board v w allowed = (a : ℕ) × (is_shared board v w allowed a ≡ true)
 
 -- two worlds are apart: neither shares a byte with the other
-abbrev pub AreApart : Numbers → World → World → List Span → Type 0
-AreApart board v w allowed =
+abbrev pub AreWorldsApart : Numbers → World → World → List Span → Type 0
+AreWorldsApart board v w allowed =
     (a : ℕ) → (is_shared board v w allowed a ≡ false) × (is_shared board w v allowed a ≡ false)

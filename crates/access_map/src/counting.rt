@@ -10,7 +10,7 @@ use std::alloc::{AllocError, Global};
 use std::marker::Model;
 
 /// How many worlds have rows at most.
-pub const MOST_WORLDS: usize = 64;
+pub const MAX_WORLDS: usize = 64;
 
 /// A world, and the steps in it.
 #[derive(Clone, Copy)]
@@ -60,7 +60,7 @@ impl Worlds {
             0,
             0,
         );
-        let rows = vec![in alloc; blank; MOST_WORLDS]?;
+        let rows = vec![in alloc; blank; MAX_WORLDS]?;
         Ok(Worlds {
             rows,
             used: 0,
@@ -126,7 +126,7 @@ impl Worlds {
         ensures { self.new ≡ added self.old world.now tick pc }
     {
         let used = self.used;
-        if used < MOST_WORLDS {
+        if used < MAX_WORLDS {
             self.rows[used] = WorldSteps::first(world, tick, pc);
             self.used = used + 1;
         } else {

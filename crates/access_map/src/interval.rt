@@ -10,7 +10,7 @@ use mpu::{Rule, Span};
 /// The bytes of an eighth of the address space.
 const EIGHTH: u32 = 0x2000_0000;
 
-/// Addresses of a place, from the first to the last, with both, at which unprivileged code has the same rights by the
+/// Addresses of a place, from the first to the last, inclusive, at which unprivileged code has the same rights by the
 /// same rule.
 #[derive(Clone, Copy)]
 pub struct Interval {

@@ -4,7 +4,7 @@ ghost use Rattle.std.specs.Prelude.{◌≡◌, ◌↔◌, ℕ, [], List};
 ghost use Rattle.access_map.specs.Maps.{IsMapOf, IsPlaceMap};
 ghost use Rattle.access_map.specs.Settings.{IsSameSetting};
 ghost use Rattle.access_map.specs.Worlds.{decision_in};
-ghost use Rattle.access_map.specs.Sharing.{AreApart, AreShared};
+ghost use Rattle.access_map.specs.Sharing.{AreWorldsApart, AreShared};
 ghost use Rattle.access_map.specs.declared.interval.Interval.{Interval};
 ghost use Rattle.access_map.specs.declared.world.Place.{Place};
 ghost use Rattle.access_map.specs.declared.world.World.{World};
@@ -30,5 +30,5 @@ pub fn same_setting_decides_alike()
 pub fn apart_exactly_without_spans()
     ensures { (board : Numbers) (v w : World) (allowed there back : List Span)
         → AreShared board v w allowed there → AreShared board w v allowed back
-        → AreApart board v w allowed ↔ ((there ≡ []) × (back ≡ [])) }
+        → AreWorldsApart board v w allowed ↔ ((there ≡ []) × (back ≡ [])) }
 {}

@@ -12,7 +12,7 @@ mod sharing;
 mod world;
 mod world_lines;
 
-pub use counting::{MOST_WORLDS, WorldSteps, Worlds};
+pub use counting::{MAX_WORLDS, WorldSteps, Worlds};
 pub use interval::Interval;
 pub use lines::{Line, map_text, pair_text};
 pub use map::{AccessMap, PlaceMap};

@@ -2,7 +2,8 @@
 
 ghost use Rattle.std.specs.Bool.{Decides};
 ghost use Rattle.std.specs.Prelude.{◌≡◌, ◌≤◌, ◌<◌, ℕ, IfOk, OnOk, false, MatchBool};
-ghost use Rattle.access_map.specs.Sharing.{AreApart, AreShared, SharesAny, carries, covers, has_address, is_channel};
+ghost use Rattle.access_map.specs.Sharing.{AreWorldsApart, AreShared, SharesAny, carries, covers, has_address};
+ghost use Rattle.access_map.specs.Sharing.{is_channel};
 ghost use Rattle.access_map.specs.Sharing.{is_in_ram, is_shared};
 ghost use Rattle.access_map.specs.Stretches.{with_stretch};
 ghost use Rattle.access_map.specs.Worlds.{is_in_place};
@@ -54,7 +55,7 @@ pub fn shared(
 
 /// Returns whether two worlds are apart: neither shares a byte with the other.
 pub fn are_apart(board: &Layout, world: &World, other: &World, allowed: &[Span]) -> bool
-    ensures { Decides result (AreApart (numbers_of board.now) world.now other.now allowed.now) }
+    ensures { Decides result (AreWorldsApart (numbers_of board.now) world.now other.now allowed.now) }
 {
     !shares(board, world, other, allowed) && !shares(board, other, world, allowed)
 }

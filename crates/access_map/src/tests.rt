@@ -3,7 +3,7 @@
 //! hand.
 
 use crate::{
-    AccessMap, MOST_WORLDS, Span, World, Worlds, are_apart, map_text, others_line, pair_text,
+    AccessMap, MAX_WORLDS, Span, World, Worlds, are_apart, map_text, others_line, pair_text,
     shared, world_line,
 };
 use mpu::{MpuRegister, MpuRegs};
@@ -369,7 +369,7 @@ fn further_worlds_are_counted_together(rt: HostRuntime) -> Result<(), Fail> {
         worlds.count(&other, 1, 0x100);
         worlds.count(&other, 2, 0x102);
     }
-    assert_eq!(rt; worlds.rows().len(), MOST_WORLDS);
+    assert_eq!(rt; worlds.rows().len(), MAX_WORLDS);
     assert!(rt; worlds.rows().iter().all(|row| row.steps == 2));
     assert_eq!(rt;
         others_line(worlds.others()).as_slice(),

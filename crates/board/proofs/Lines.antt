@@ -1,5 +1,6 @@
 -- The lines of devices that were read are interrupts of the board.
-use Rattle.std.proofs.Common.{◌≡◌, ℕ, ◌+◌, ◌%◌, ◌^◌, ◌<◌, ◌==◌, Bool, true, false, nat_le, nat_lt, List, [], ◌∷◌, ◌++◌, codes, Option, Some, None}
+use Rattle.std.proofs.Common.{◌≡◌, ℕ, ◌+◌, ◌%◌, ◌^◌, ◌<◌, ◌==◌, Bool, true, false, nat_le, nat_lt, List, [], ◌∷◌, ◌++◌}
+use Rattle.std.proofs.Common.{codes, Option, Some, None}
 use Rattle.std.proofs.Common.{Result, Ok, Err, refl, sym, ap, subst, arith}
 use Rattle.std.proofs.lemmas.Bool.{eqb-true, leb-true, ltb-true}
 use Rattle.std.proofs.lemmas.Bool.Decides.{nat_tests}
@@ -10,8 +11,10 @@ use Rattle.platform.specs.declared.error.BoardError.{BoardError}
 use Rattle.platform.specs.Boards.{Numbers}
 use Rattle.platform.specs.SystemInvariant.{HasLineOfBoard, HaveLinesOfBoard}
 use Rattle.board.specs.declared.device_parts.Effects.{Effects}
-use Rattle.board.specs.Devices.{Span, Values, checked, device_in, device_of, devices_at, devices_in, effects_in, is_device_line}
-use Rattle.board.specs.Devices.{is_followed, known_keys, line_in, line_of, listed_device, most_devices, span_in, values_in}
+use Rattle.board.specs.Devices.{Span, Values, checked, device_in, device_of, devices_at, devices_in, effects_in}
+use Rattle.board.specs.Devices.{is_device_line}
+use Rattle.board.specs.Devices.{is_followed, known_keys, line_in, line_of, listed_device, max_devices, span_in}
+use Rattle.board.specs.Devices.{values_in}
 use Rattle.board.specs.Values.{◌>>=◌, number, of_kind, tables_at, where_ok}
 use Rattle.board.proofs.Ordered.{both, in_range}
 
@@ -105,5 +108,5 @@ pub lines_at : (numbers : Numbers) (document : Members) (all : List Device) → 
     → HaveLinesOfBoard numbers.interrupts all
 unfolding devices_at
 lines_at numbers document all taken =
-    let (tables, at_tables) = both (tables_at most_devices (get_member (codes "device") document)) _ all taken in
+    let (tables, at_tables) = both (tables_at max_devices (get_member (codes "device") document)) _ all taken in
     lines_are numbers 0 [] tables all at_tables.1 tt

@@ -5,7 +5,7 @@ use Rattle.std.proofs.lemmas.Bool.Decides.{nat_tests}
 use Rattle.board.proofs.Ordered.{script_is}
 use Rattle.board.specs.declared.board.Board.{Board}
 use Rattle.board.specs.Reading.{described}
-use Rattle.platform.specs.declared.exception.TheConstants.{MOST_INTERRUPTS}
+use Rattle.platform.specs.declared.exception.TheConstants.{MAX_INTERRUPTS}
 use Rattle.platform.specs.declared.mpu.RegionCount.{RegionCount}
 use Rattle.platform.specs.declared.mpu.RegionCount.TheVariants.{Eight, Sixteen}
 use Rattle.platform.specs.declared.board.SecondRam.{SecondRam}
@@ -15,7 +15,7 @@ use Rattle.platform.specs.SystemInvariant.{HaveLinesOfBoard, IsBoard}
 use Rattle.platform.specs.Map.{is_for_memory, ram_base}
 use Rattle.platform.specs.Regions.{region_number}
 
-few_lines : (interrupts : ℕ) → interrupts ≤ MOST_INTERRUPTS → is_interrupt_count interrupts ≡ true
+few_lines : (interrupts : ℕ) → interrupts ≤ MAX_INTERRUPTS → is_interrupt_count interrupts ≡ true
 few_lines interrupts few = grind (arith, nat_tests)
 
 flash_fits : (base size : ℕ) → size % 1024 ≡ 0 → 1024 ≤ size → size ≤ 0x10_0000 → base + size ≤ ram_base →

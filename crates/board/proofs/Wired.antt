@@ -1,6 +1,7 @@
 -- The devices that were read are wired as a machine needs it. First for one device more after those before it; then
 -- what the table of a device says of it; then the script.
-use Rattle.std.proofs.Common.{◌≡◌, ◌∙◌, ℕ, ◌+◌, ◌%◌, ◌^◌, ◌<◌, ◌≤◌, ◌==◌, bit_and, Bool, true, false, ◌&&◌, ◌||◌, not, nat_le}
+use Rattle.std.proofs.Common.{◌≡◌, ◌∙◌, ℕ, ◌+◌, ◌%◌, ◌^◌, ◌<◌, ◌≤◌, ◌==◌, bit_and, Bool, true, false, ◌&&◌, ◌||◌, not}
+use Rattle.std.proofs.Common.{nat_le}
 use Rattle.std.proofs.Common.{nat_lt, if◌then◌else◌, List, [], ◌∷◌, ◌++◌, codes, Option, Some, None, IfSome, is_some}
 use Rattle.std.proofs.Common.{unwrap_or, Result, Ok, Err, refl, sym, ap, subst, arith}
 use Rattle.std.proofs.lemmas.Bool.{eqb-true, leb-true, ltb-true}
@@ -22,8 +23,9 @@ use Rattle.platform.specs.Boards.{Numbers, is_tick}
 use Rattle.board.specs.declared.device_parts.Effects.{Effects}
 use Rattle.board.specs.Devices.{Span, Values, address_where, bits_at, checked, counts_in, device_in, device_of}
 use Rattle.board.specs.Devices.{devices_at, devices_in, effects_in, flag, has_32_bits, is_device_base, is_device_line}
-use Rattle.board.specs.Devices.{is_device_size, is_device_word, is_followed, is_in_device, known_keys, line_in, line_of, listed_device}
-use Rattle.board.specs.Devices.{most_devices, span_in, stores_at, values_in}
+use Rattle.board.specs.Devices.{is_device_size, is_device_word, is_followed, is_in_device, known_keys, line_in, line_of}
+use Rattle.board.specs.Devices.{listed_device}
+use Rattle.board.specs.Devices.{max_devices, span_in, stores_at, values_in}
 use Rattle.board.specs.Texts.{change, device_signal, event_in, interrupt_keys, interrupt_signal, is_free_line, nmi}
 use Rattle.board.specs.Texts.{nmi_keys, nmi_signal, poke_keys, poke_signal, script_in, signal_in, timely_event}
 use Rattle.board.specs.Values.{◌>>=◌, number, number_or, of_kind, only, tables_at, where_ok, word}
@@ -177,7 +179,8 @@ undriven_more es d (Some l) None is before other = driven_more es d l.number bef
 undriven_more es d (Some l) (Some k) is before other =
     driven_more es d l.number before (rw is (turned l k other))
 
-first_free : (e : Device) (es : List Device) (line : Option Line) → IfSome line (λ l. is_driven (e ∷ es) l.number ≡ false)
+first_free : (e : Device) (es : List Device) (line : Option Line)
+    → IfSome line (λ l. is_driven (e ∷ es) l.number ≡ false)
     → IfSome line (λ l. is_line_of e.line l.number ≡ false)
 first_free e es None free = free
 first_free e es (Some l) free = (neither (is_line_of e.line l.number) (is_driven es l.number) free).0
@@ -407,7 +410,7 @@ wired_at : (numbers : Numbers) (document : Members) (all : List Device) → devi
     → IsWired all
 unfolding devices_at
 wired_at numbers document all taken =
-    let (tables, at_tables) = both (tables_at most_devices (get_member (codes "device") document)) _ all taken in
+    let (tables, at_tables) = both (tables_at max_devices (get_member (codes "device") document)) _ all taken in
     devices_are numbers 0 [] tables all at_tables.1 (record { apart = tt; follow = none; steady = tt })
   where
     none : Follow []

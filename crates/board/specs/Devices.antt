@@ -76,8 +76,8 @@ is_outside numbers base size =
     && (is_beside numbers.second_ram base size && are_apart ppb_base ppb_size base size))
 
 -- all devices of a board have a mebibyte at most
-abbrev pub most_device_bytes : ℕ
-most_device_bytes = 0x10_0000
+abbrev pub max_device_bytes : ℕ
+max_device_bytes = 0x10_0000
 
 -- a device may begin here
 abbrev pub is_device_base : ℕ → Bool
@@ -92,7 +92,7 @@ abbrev pub is_device_size : Numbers → ℕ → ℕ → ℕ → Bool
 is_device_size numbers before base size =
     is_device_bytes size
     && (nat_le (base + size) (2 ^ 32)
-    && (is_outside numbers base size && nat_le (before + size) most_device_bytes))
+    && (is_outside numbers base size && nat_le (before + size) max_device_bytes))
 
 pub record Span : Type 0 where
   pub base : ℕ
@@ -291,11 +291,11 @@ devices_in numbers before devices (item value others) = do
   devices_in numbers (before + device.size) (devices ++ device ∷ []) others
 
 -- a board has at most this many devices
-abbrev pub most_devices : ℕ
-most_devices = 256
+abbrev pub max_devices : ℕ
+max_devices = 256
 
 -- the devices of a document
 unfoldable pub devices_at : Numbers → Members → Result (List Device) BoardError
 devices_at numbers document = do
-  tables ← tables_at most_devices (get_member (codes "device") document)
+  tables ← tables_at max_devices (get_member (codes "device") document)
   devices_in numbers 0 [] tables

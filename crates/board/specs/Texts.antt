@@ -12,7 +12,7 @@ use Rattle.platform.specs.declared.script.Signal.{Signal}
 use Rattle.platform.specs.declared.script.Signal.TheVariants.{Rise, Fall, Pulse, Nmi, Poke}
 use Rattle.platform.specs.Boards.{Numbers, Described, RamSpan, is_whole_blocks, is_size, is_flash, is_priority_bits}
 use Rattle.platform.specs.Boards.{is_interrupt_count, is_second_ram}
-use Rattle.platform.specs.Boards.{is_region_count, default_regions, is_tick, first_tick, most_events}
+use Rattle.platform.specs.Boards.{is_region_count, default_regions, is_tick, first_tick, max_events}
 use Rattle.board.specs.Values.{◌>>=◌, number, number_or, of_kind, only, tables_at, where_ok, word}
 use Rattle.board.specs.Devices.{devices_at, has_32_bits, is_device_word}
 use Rattle.wiring.specs.Wiring.{is_driven}
@@ -133,8 +133,8 @@ script_in interrupts devices before (item value others) = do
   in_front event (script_in interrupts devices event.at others)
 
 -- a board has one table of a second RAM at most
-abbrev pub most_second_rams : ℕ
-most_second_rams = 1
+abbrev pub max_second_rams : ℕ
+max_second_rams = 1
 
 -- the base of a second RAM: the address of a block
 abbrev pub is_second_base : ℕ → Bool
@@ -161,7 +161,7 @@ second_ram_of numbers (item value others) = do
 -- the numbers of a board with the second RAM of a document, if it has one
 unfoldable pub with_second_ram : Numbers → Members → Result Numbers BoardError
 with_second_ram numbers document = do
-  rams ← tables_at most_second_rams (get_member (codes "ram") document)
+  rams ← tables_at max_second_rams (get_member (codes "ram") document)
   second ← second_ram_of numbers rams
   Ok (record numbers { second_ram = second })
 
@@ -172,7 +172,7 @@ board_in document = do
   known ← only board_keys document
   all ← with_second_ram numbers document
   devices ← devices_at all document
-  events ← tables_at most_events (get_member (codes "event") document)
+  events ← tables_at max_events (get_member (codes "event") document)
   script ← script_in all.interrupts devices first_tick events
   Ok (record { numbers = all; script = script; devices = devices })
 

@@ -3,7 +3,7 @@
 ghost use Rattle.std.specs.Prelude.{◌≡◌, ◌<◌, ◌≤◌, option_map, Ok, Some};
 ghost use Rattle.std.specs.Bool.{OnTrue};
 ghost use Rattle.toml.specs.View.{table_view, view};
-ghost use Rattle.platform.specs.declared.exception.TheConstants.{MOST_INTERRUPTS};
+ghost use Rattle.platform.specs.declared.exception.TheConstants.{MAX_INTERRUPTS};
 ghost use Rattle.board.specs.Devices.{effects_in, is_device_line, is_named, line_in, line_of, poke_where};
 ghost use Rattle.board.specs.Reading.{span_read};
 
@@ -93,7 +93,7 @@ pub fn line_in(
     table: &Table,
     value: Option<&Value>,
 ) -> Result<Option<Line>, BoardError>
-    requires { interrupts ≤ MOST_INTERRUPTS }
+    requires { interrupts ≤ MAX_INTERRUPTS }
     ensures { result ≡ line_in interrupts devices.now (span_read span.now) counts (table_view table.now)
         (option_map (λ v. view v.now) value.entry) }
 {
@@ -113,7 +113,7 @@ pub fn line_in(
 
 // The line of its parts.
 fn line_of(number: u8, enable: u32) -> Line
-    requires { number < MOST_INTERRUPTS }
+    requires { number < MAX_INTERRUPTS }
     ensures { line_of number enable ≡ Ok (Some result) }
 {
     Line { number, enable }

@@ -12,10 +12,10 @@ use platform::board::{Layout, SecondRam};
 use platform::map::RAM_BASE;
 
 /// A device has this many bytes at most.
-pub const MOST_DEVICE_BYTES: u64 = 65_536;
+pub const MAX_DEVICE_BYTES: u64 = 65_536;
 
 /// All devices of a board have this many bytes at most.
-pub const MOST_BYTES_OF_DEVICES: u64 = 0x10_0000;
+pub const MAX_BYTES_OF_DEVICES: u64 = 0x10_0000;
 
 /// The last address of a word.
 pub const LAST_WORD: u64 = 0xFFFF_FFFC;
@@ -84,7 +84,7 @@ pub fn is_device_bytes(size: u64) -> bool
     ensures whole { OnTrue result (size % 4 ≡ 0) }
     ensures most { OnTrue result (size ≤ 65536) }
 {
-    size % 4 == 0 && 4 <= size && size <= MOST_DEVICE_BYTES
+    size % 4 == 0 && 4 <= size && size <= MAX_DEVICE_BYTES
 }
 
 /// Returns whether a device can have this many bytes from a base on, where the devices before it have `before`.
@@ -101,5 +101,5 @@ pub fn is_device_size(layout: &Layout, before: u64, base: u64, size: u64) -> boo
     is_device_bytes(size)
         && base + size <= SPACE
         && is_outside(layout, base, size)
-        && before + size <= MOST_BYTES_OF_DEVICES
+        && before + size <= MAX_BYTES_OF_DEVICES
 }

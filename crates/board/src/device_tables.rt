@@ -15,7 +15,7 @@ use crate::events::tables;
 use crate::found::Found;
 use crate::keys::{DEVICE_KEYS, has_only};
 use crate::values::find;
-use devices::{Device, Line, MOST_DEVICES};
+use devices::{Device, Line, MAX_DEVICES};
 use platform::board::Layout;
 use platform::error::BoardError;
 use toml::{Table, Value};
@@ -25,7 +25,7 @@ use toml::{Table, Value};
 pub fn devices_at(layout: &Layout, document: &Table) -> Result<Found, BoardError>
     ensures { Gives (λ found. found) result (devices_at (numbers_of layout.now) (table_view document.now)) }
 {
-    let values = tables(find(document, "device"), MOST_DEVICES)?;
+    let values = tables(find(document, "device"), MAX_DEVICES)?;
     devices_of(layout, values)
 }
 
@@ -44,7 +44,8 @@ fn devices_of(layout: &Layout, values: &[Value]) -> Result<Found, BoardError>
     Ok(found)
 }
 
-/// Returns the device of a list of tables that a value describes, after the devices before it, which have `before` bytes.
+/// Returns the device of a list of tables that a value describes, after the devices before it, which have `before`
+/// bytes.
 #[tactic(auto, unfolding(crate::specs::Devices::listed_device))]
 pub fn listed_device(
     layout: &Layout,

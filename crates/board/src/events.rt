@@ -17,13 +17,13 @@ use crate::ranges::{FIRST_TICK, is_tick};
 use crate::values::{find, number, word};
 use devices::{Device, Poke};
 use platform::error::BoardError;
-use platform::exception::MOST_INTERRUPTS;
+use platform::exception::MAX_INTERRUPTS;
 use platform::script::{InterruptNumber, ScriptedEvent, Signal};
 use std::alloc::Global;
 use toml::{Table, Value};
 
 /// The most events that a board can have.
-pub const MOST_SCRIPT_EVENTS: usize = 65_536;
+pub const MAX_SCRIPT_EVENTS: usize = 65_536;
 
 // The tables at a key, which may be missing: a list of tables, at most `most`.
 #[tactic(auto, using(crate::proofs::Scripts::count_is))]
@@ -67,7 +67,7 @@ pub fn script_of(
     devices: &[Device],
     values: &[Value],
 ) -> Result<Vec<ScriptedEvent>, BoardError>
-    requires { interrupts ≤ MOST_INTERRUPTS }
+    requires { interrupts ≤ MAX_INTERRUPTS }
     ensures { Answers (λ events. events.items) result
         (script_in interrupts devices.now FIRST_TICK (items_view values.now)) }
 {
@@ -108,7 +108,7 @@ fn timely_event(
     before: u64,
     value: &Value,
 ) -> Result<ScriptedEvent, BoardError>
-    requires { interrupts ≤ MOST_INTERRUPTS }
+    requires { interrupts ≤ MAX_INTERRUPTS }
     ensures { result ≡ timely_event interrupts devices.now before (view value.now) }
 {
     let Some(fields) = value.as_table() else {
@@ -124,7 +124,7 @@ fn timely_event(
 // One event.
 #[tactic(auto, unfolding(crate::specs::Texts::event_in))]
 fn event_of(interrupts: u8, devices: &[Device], event: &Table) -> Result<ScriptedEvent, BoardError>
-    requires { interrupts ≤ MOST_INTERRUPTS }
+    requires { interrupts ≤ MAX_INTERRUPTS }
     ensures { result ≡ event_in interrupts devices.now (table_view event.now) }
 {
     let at = number(find(event, "at"))?;
@@ -142,7 +142,7 @@ fn signal_of(
     event: &Table,
     value: Option<&Value>,
 ) -> Result<Signal, BoardError>
-    requires { interrupts ≤ MOST_INTERRUPTS }
+    requires { interrupts ≤ MAX_INTERRUPTS }
     ensures { result ≡ signal_in interrupts devices.now (table_view event.now)
         (option_map (λ v. view v.now) value.entry) }
 {
@@ -159,7 +159,7 @@ fn device_signal(
     event: &Table,
     value: Option<&Value>,
 ) -> Result<Signal, BoardError>
-    requires { interrupts ≤ MOST_INTERRUPTS }
+    requires { interrupts ≤ MAX_INTERRUPTS }
     ensures { result ≡ device_signal interrupts devices.now (table_view event.now)
         (option_map (λ v. view v.now) value.entry) }
 {
@@ -202,7 +202,7 @@ pub fn is_free_line(interrupts: u8, devices: &[Device], interrupt: u64) -> bool
 // The signal of an event that names an interrupt of the board.
 #[tactic(auto, unfolding(crate::specs::Texts::interrupt_signal))]
 fn interrupt_signal(interrupts: u8, devices: &[Device], event: &Table) -> Result<Signal, BoardError>
-    requires { interrupts ≤ MOST_INTERRUPTS }
+    requires { interrupts ≤ MAX_INTERRUPTS }
     ensures { result ≡ interrupt_signal interrupts devices.now (table_view event.now) }
 {
     let interrupt = number(find(event, "line"))?;

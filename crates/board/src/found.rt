@@ -2,7 +2,7 @@
 
 ghost use Rattle.std.specs.Prelude.{◌≡◌, ◌<◌, ◌≤◌, [], ◌∷◌, ◌++◌, length, IfOk};
 
-use devices::{Device, MOST_DEVICES, Stores};
+use devices::{Device, MAX_DEVICES, Stores};
 use std::alloc::{AllocError, Global};
 use std::marker::Model;
 
@@ -28,7 +28,7 @@ const BLANK: Device = Device {
 /// what a table may name depends on the devices before it.
 #[derive(Drop)]
 pub struct Found {
-    places: [Device; MOST_DEVICES],
+    places: [Device; MAX_DEVICES],
     count: usize,
 }
 
@@ -44,12 +44,11 @@ impl Model for Found {
 }
 
 impl Found {
-    /// Returns no devices.
     pub fn new() -> Self
         ensures { result ≡ [] }
     {
         Found {
-            places: [BLANK; MOST_DEVICES],
+            places: [BLANK; MAX_DEVICES],
             count: 0,
         }
     }

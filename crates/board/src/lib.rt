@@ -1,4 +1,5 @@
-//! The reader of board files: the numbers of a board, its second RAM, its devices, and the script of what happens on its
+//! The reader of board files: the numbers of a board, its second RAM, its devices, and the script of what happens on
+//! its
 //! interrupts and to its devices, in TOML. README.md says what is proved.
 #![tactic(auto)]
 
@@ -34,8 +35,8 @@ pub use device_span::{
 };
 pub use device_tables::{devices_at, goes_with, has_device_keys, listed_device};
 pub use device_values::{DEFAULT_PLACES, PLACES, flag, stores_named, values_in};
-pub use devices::{Device, Line, MOST_DEVICES, Poke, Stores};
-pub use events::{MOST_SCRIPT_EVENTS, change, is_free_line, nmi};
+pub use devices::{Device, Line, MAX_DEVICES, Poke, Stores};
+pub use events::{MAX_SCRIPT_EVENTS, change, is_free_line, nmi};
 use events::{script_of, tables};
 pub use found::Found;
 use found::copied;
@@ -44,7 +45,7 @@ pub use layout::{DEFAULT_REGIONS, layout_of, region_count};
 pub use platform::board::{Layout, SecondRam};
 pub use platform::error::BoardError;
 pub use platform::script::{InterruptNumber, ScriptedEvent, Signal};
-pub use second_ram::{MOST_SECOND_RAMS, with_second_ram};
+pub use second_ram::{MAX_SECOND_RAMS, with_second_ram};
 use std::alloc::Global;
 use toml::Table;
 pub use values::{find, number, word};
@@ -84,7 +85,7 @@ pub fn board_of_table(alloc: Global, document: &Table) -> Result<Board, BoardErr
     let layout = with_second_ram(layout, document)?;
     let found = devices_at(&layout, document)?;
     let devices = found.devices();
-    let values = tables(find(document, "event"), MOST_SCRIPT_EVENTS)?;
+    let values = tables(find(document, "event"), MAX_SCRIPT_EVENTS)?;
     let events = script_of(alloc, layout.interrupts, devices, values)?;
     let Ok(devices) = copied(alloc, devices) else {
         return Err(BoardError::OutOfMemory);

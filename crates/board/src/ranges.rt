@@ -9,26 +9,26 @@ ghost use Rattle.platform.specs.Boards.{is_second_size, is_size, is_tick, is_who
 ghost use Rattle.board.specs.Texts.{is_second_base};
 
 use platform::board::Layout;
-use platform::exception::MOST_INTERRUPTS;
+use platform::exception::MAX_INTERRUPTS;
 use platform::map::RAM_BASE;
 
 /// Flash and RAM come in blocks of this many bytes.
 pub const BLOCK: u64 = 1024;
 
 /// Flash and RAM have a mebibyte each at most.
-pub const MOST_BYTES: u64 = 0x10_0000;
+pub const MAX_BYTES: u64 = 0x10_0000;
 
 /// The second RAM has 16 mebibytes at most.
-pub const MOST_SECOND_BYTES: u64 = 0x100_0000;
+pub const MAX_SECOND_BYTES: u64 = 0x100_0000;
 
 /// The last address of a block.
 pub const LAST_BLOCK: u64 = 0xFFFF_FC00;
 
 /// The least number of bits that a priority has.
-pub const LEAST_PRIORITY_BITS: u64 = 3;
+pub const MIN_PRIORITY_BITS: u64 = 3;
 
 /// The greatest number of bits that a priority has.
-pub const MOST_PRIORITY_BITS: u64 = 8;
+pub const MAX_PRIORITY_BITS: u64 = 8;
 
 /// The least tick that an event can have.
 pub const FIRST_TICK: u64 = 1;
@@ -51,7 +51,7 @@ pub fn is_size(bytes: u64) -> bool
     ensures least { OnTrue result (1024 ≤ bytes) }
     ensures most { OnTrue result (bytes ≤ 0x10_0000) }
 {
-    is_whole_blocks(bytes) && BLOCK <= bytes && bytes <= MOST_BYTES
+    is_whole_blocks(bytes) && BLOCK <= bytes && bytes <= MAX_BYTES
 }
 
 /// Returns whether flash can have this many bytes at a base.
@@ -82,7 +82,7 @@ pub fn is_second_size(bytes: u64) -> bool
     ensures least { OnTrue result (1024 ≤ bytes) }
     ensures most { OnTrue result (bytes ≤ 0x100_0000) }
 {
-    is_whole_blocks(bytes) && BLOCK <= bytes && bytes <= MOST_SECOND_BYTES
+    is_whole_blocks(bytes) && BLOCK <= bytes && bytes <= MAX_SECOND_BYTES
 }
 
 /// Returns whether this many bytes from a base on are where the default memory map has memory (B3.1).
@@ -139,15 +139,15 @@ pub fn is_priority_bits(bits: u64) -> bool
     ensures enough { OnTrue result (3 ≤ bits) }
     ensures few { OnTrue result (bits ≤ 8) }
 {
-    (LEAST_PRIORITY_BITS..=MOST_PRIORITY_BITS).contains(&bits)
+    (MIN_PRIORITY_BITS..=MAX_PRIORITY_BITS).contains(&bits)
 }
 
 /// Returns whether a board can have `interrupts` interrupts.
 pub fn is_interrupt_count(interrupts: u64) -> bool
     ensures test { result ≡ is_interrupt_count interrupts }
-    ensures few { OnTrue result (interrupts ≤ MOST_INTERRUPTS) }
+    ensures few { OnTrue result (interrupts ≤ MAX_INTERRUPTS) }
 {
-    interrupts <= u64::from(MOST_INTERRUPTS)
+    interrupts <= u64::from(MAX_INTERRUPTS)
 }
 
 /// Returns whether an event can have this tick.

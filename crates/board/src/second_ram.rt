@@ -15,14 +15,14 @@ use platform::error::BoardError;
 use toml::{Table, Value};
 
 /// The most tables of a second RAM that a board can have.
-pub const MOST_SECOND_RAMS: usize = 1;
+pub const MAX_SECOND_RAMS: usize = 1;
 
 /// Returns the layout with the second RAM of a document, if it has one, or the first refusal.
 #[tactic(auto, unfolding(crate::specs::Texts::with_second_ram))]
 pub fn with_second_ram(layout: Layout, document: &Table) -> Result<Layout, BoardError>
     ensures { Gives numbers_of result (with_second_ram (numbers_of layout) (table_view document.now)) }
 {
-    let rams = tables(find(document, "ram"), MOST_SECOND_RAMS)?;
+    let rams = tables(find(document, "ram"), MAX_SECOND_RAMS)?;
     let second_ram = second_ram_of(&layout, rams)?;
     Ok(Layout {
         flash_base: layout.flash_base,

@@ -3,11 +3,11 @@
 ghost use Rattle.std.specs.Prelude.{◌≡◌, false, slice_index_or};
 ghost use Rattle.platform.specs.Time.{with_signal, with_events};
 
-use platform::exception::MOST_INTERRUPTS;
+use platform::exception::MAX_INTERRUPTS;
 use platform::script::{InterruptNumber, ScriptedEvent, Signal};
 
 /// How many interrupts there can be.
-pub const INTERRUPTS: usize = MOST_INTERRUPTS as usize;
+pub const INTERRUPTS: usize = MAX_INTERRUPTS as usize;
 
 /// For each interrupt, whether it is high.
 pub type HighInterrupts = [bool; INTERRUPTS];

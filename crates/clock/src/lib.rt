@@ -3,29 +3,29 @@
 #![tactic(auto)]
 
 ghost use Rattle.std.specs.Prelude.{◌≡◌, ◌↔◌, ℕ, ◌+◌, ◌^◌, ◌<◌, ◌≤◌, [], true, false, IfOk, IsTrue};
-ghost use Rattle.clock.specs.DueTicks.{IsRight, IsQuiet};
+ghost use Rattle.clock.specs.DueTick.{DueTickIsExact, IsBeforeDueTick};
 ghost use Rattle.platform.specs.Time.{time_after_tick, counted, events_at, tick_pends, script_due};
 ghost use Rattle.platform.specs.Time.{passed, is_high, start_time, csr, after_csr_read, with_csr};
 ghost use Rattle.platform.specs.Time.{pends, with_events, with_rvr, with_cvr_cleared, with_signal, IsSetOf};
 
-mod ahead;
-mod due_ticks;
 mod interrupts;
 pub mod laws;
+mod lazy_systick;
 mod script;
 mod sets;
+mod systick_state;
 mod timer;
 
-pub use ahead::Ahead;
-pub use due_ticks::{Counting, DueTicks};
 use interrupts::take_events;
 pub use interrupts::{HighInterrupts, is_high, take_signal};
+pub use lazy_systick::LazySysTick;
 pub use platform::script::{InterruptNumber, ScriptedEvent, Signal};
 pub use script::Script;
 use sets::NOTHING;
 pub use sets::{Due, put_signal};
 use std::alloc::{AllocError, Global};
 use std::marker::Model;
+pub use systick_state::{EagerSysTick, SysTickState};
 pub use timer::SysTick;
 
 #[cfg(test)]
@@ -34,18 +34,18 @@ mod tests;
 /// Time. A contract sees it as the reference's `Time`, and beside it the tick that it keeps as the
 /// next one at which something is due.
 #[derive(Drop)]
-pub struct Clock<U: DueTicks> {
+pub struct Clock<U: SysTickState> {
     ticks: u64,
     timer: U,
     high: HighInterrupts,
     script: Script,
 }
 
-impl<U: DueTicks> Model for Clock<U> {
+impl<U: SysTickState> Model for Clock<U> {
     ghost use Rattle.std.specs.Prelude.{◌≤◌, ◌^◌};
-    ghost use Rattle.clock.specs.DueTicks.{Kept};
+    ghost use Rattle.clock.specs.DueTick.{TimeAndDue};
 
-    ghost Value = { Kept };
+    ghost Value = { TimeAndDue };
 
     ghost view = { λ c. record {
       time = record {
@@ -60,11 +60,11 @@ impl<U: DueTicks> Model for Clock<U> {
     ghost invariant = { λ c. (U.since c.timer ≤ c.ticks) × (c.ticks ≤ 2 ^ 48) };
 }
 
-impl<U: DueTicks> Clock<U> {
+impl<U: SysTickState> Clock<U> {
     /// Returns a clock before its first tick, with a script.
     pub fn new(script: Script) -> Self
         ensures time { result.time ≡ start_time script }
-        ensures right { IsRight result }
+        ensures right { DueTickIsExact result }
     {
         Clock {
             ticks: 0,
@@ -77,7 +77,7 @@ impl<U: DueTicks> Clock<U> {
     /// Returns a copy, or fails where memory can't be allocated.
     pub fn copied(&self, alloc: Global) -> Result<Self, AllocError>
         ensures time { IfOk result (λ clock. clock.time ≡ self.now.time) }
-        ensures right { IfOk result (λ clock. IsRight clock) }
+        ensures right { IfOk result (λ clock. DueTickIsExact clock) }
     {
         let script = Script::new(alloc, self.script.events())?;
         let mut copy = Clock::new(script);
@@ -88,7 +88,7 @@ impl<U: DueTicks> Clock<U> {
     /// Takes the time of another clock in place of its own.
     pub fn copy_from(&mut self, other: &Self)
         ensures time { self.new.time ≡ other.now.time }
-        ensures right { IsRight self.new }
+        ensures right { DueTickIsExact self.new }
     {
         let next_event = other.next_event();
         let mut timer = U::fresh(next_event);
@@ -103,7 +103,7 @@ impl<U: DueTicks> Clock<U> {
     pub fn signal(&mut self, what: &Signal) -> Due
         ensures time { self.new.time ≡ record self.old.time { high = with_signal self.old.time.high what.now } }
         ensures due { IsSetOf result (pends what.now) }
-        ensures right { IsRight self.old → IsRight self.new }
+        ensures right { DueTickIsExact self.old → DueTickIsExact self.new }
     {
         take_signal(&mut self.high, *what);
         sets::due_by(*what)
@@ -130,8 +130,8 @@ impl<U: DueTicks> Clock<U> {
     #[tactic(auto, using(crate::proofs::Quiet::right_pends))]
     pub fn peek(&self) -> Due
         requires { self.now.time.ticks < 2 ^ 48 }
-        ensures due { IsRight self.now → IsSetOf result (tick_pends self.now.time) }
-        ensures quiet { IsQuiet self.now → IsSetOf result (λ _. false) }
+        ensures due { DueTickIsExact self.now → IsSetOf result (tick_pends self.now.time) }
+        ensures quiet { IsBeforeDueTick self.now → IsSetOf result (λ _. false) }
     {
         if self.timer.is_quiet_after(self.ticks) {
             NOTHING
@@ -175,14 +175,15 @@ impl<U: DueTicks> Clock<U> {
     #[tactic(auto, using(crate::proofs::Quiet::right_lemmas))]
     pub fn tick_quietly(&mut self) -> bool
         requires { self.old.time.ticks < 2 ^ 48 }
-        ensures answer { IsTrue result ↔ IsQuiet self.old }
+        ensures answer { IsTrue result ↔ IsBeforeDueTick self.old }
         ensures same { result ≡ false → self.new ≡ self.old }
         ensures passes { result ≡ true → self.new ≡ record self.old { time = passed self.old.time } }
-        ensures time { result ≡ true → IsRight self.old → self.new.time ≡ time_after_tick self.old.time }
-        ensures quiet { result ≡ true → IsRight self.old → (number : ℕ) → tick_pends self.old.time number ≡ false }
-        ensures silent { result ≡ true → IsRight self.old
+        ensures time { result ≡ true → DueTickIsExact self.old → self.new.time ≡ time_after_tick self.old.time }
+        ensures quiet { result ≡ true → DueTickIsExact self.old → (number : ℕ) → tick_pends self.old.time number
+            ≡ false }
+        ensures silent { result ≡ true → DueTickIsExact self.old
             → events_at (self.old.time.ticks + 1) self.old.time.script ≡ [] }
-        ensures right { IsRight self.old → IsRight self.new }
+        ensures right { DueTickIsExact self.old → DueTickIsExact self.new }
     {
         if self.timer.is_quiet_after(self.ticks) {
             self.ticks += 1;
@@ -197,7 +198,7 @@ impl<U: DueTicks> Clock<U> {
         requires { self.old.time.ticks < 2 ^ 48 }
         ensures time { self.new.time ≡ time_after_tick self.old.time }
         ensures due { IsSetOf result (tick_pends self.old.time) }
-        ensures right { IsRight self.new }
+        ensures right { DueTickIsExact self.new }
     {
         let systick = self.systick();
         let script = self.script.events();
@@ -215,7 +216,7 @@ impl<U: DueTicks> Clock<U> {
         requires { self.old.time.ticks < 2 ^ 48 }
         ensures time { self.new.time
             ≡ record self.old.time { ticks = self.old.time.ticks + 1; systick = counted self.old.time.systick } }
-        ensures right { IsRight self.new }
+        ensures right { DueTickIsExact self.new }
     {
         let next_event = self.next_event();
         self.timer.count(self.ticks, next_event);
@@ -226,7 +227,7 @@ impl<U: DueTicks> Clock<U> {
     pub fn read_csr(&mut self) -> u32
         ensures value { result ≡ csr self.old.time.systick }
         ensures time { self.new.time ≡ record self.old.time { systick = after_csr_read self.old.time.systick } }
-        ensures right { IsRight self.new }
+        ensures right { DueTickIsExact self.new }
     {
         let mut systick = self.systick();
         let value = systick.csr();
@@ -238,7 +239,7 @@ impl<U: DueTicks> Clock<U> {
     /// Writes SYST_CSR.
     pub fn write_csr(&mut self, value: u32)
         ensures time { self.new.time ≡ record self.old.time { systick = with_csr self.old.time.systick value } }
-        ensures right { IsRight self.new }
+        ensures right { DueTickIsExact self.new }
     {
         let mut systick = self.systick();
         systick.write_csr(value);
@@ -255,7 +256,7 @@ impl<U: DueTicks> Clock<U> {
     /// Writes SYST_RVR, of which 24 bits are kept.
     pub fn write_rvr(&mut self, value: u32)
         ensures time { self.new.time ≡ record self.old.time { systick = with_rvr self.old.time.systick value } }
-        ensures right { IsRight self.new }
+        ensures right { DueTickIsExact self.new }
     {
         let mut systick = self.systick();
         systick.write_rvr(value);
@@ -272,7 +273,7 @@ impl<U: DueTicks> Clock<U> {
     /// Writes SYST_CVR: any value clears it, and COUNTFLAG.
     pub fn write_cvr(&mut self)
         ensures time { self.new.time ≡ record self.old.time { systick = with_cvr_cleared self.old.time.systick } }
-        ensures right { IsRight self.new }
+        ensures right { DueTickIsExact self.new }
     {
         let mut systick = self.systick();
         systick.clear_cvr();
@@ -291,7 +292,7 @@ impl<U: DueTicks> Clock<U> {
     #[inline]
     fn set_systick(&mut self, systick: SysTick)
         ensures time { self.new.time ≡ record self.old.time { systick = systick } }
-        ensures right { IsRight self.new }
+        ensures right { DueTickIsExact self.new }
     {
         let next_event = self.next_event();
         self.timer.set(self.ticks, systick, next_event);

@@ -8,7 +8,7 @@ use std::alloc::{AllocError, Global};
 use std::marker::Model;
 
 /// The most events that a script can have, as many as the reader of boards takes.
-const MOST_EVENTS: usize = 65_536;
+const MAX_EVENTS: usize = 65_536;
 
 /// A tick that a clock never reaches.
 pub const NEVER: u64 = (1 << 48) + 1;
@@ -40,10 +40,10 @@ impl Script {
     pub fn new(alloc: Global, events: &[ScriptedEvent]) -> Result<Self, AllocError>
         ensures { IfOk result (λ script. script ≡ events.now) }
     {
-        if events.len() > MOST_EVENTS {
+        if events.len() > MAX_EVENTS {
             return Err(AllocError);
         }
-        let mut room = Vec::with_capacity(alloc, MOST_EVENTS)?;
+        let mut room = Vec::with_capacity(alloc, MAX_EVENTS)?;
         room.extend_from_slice(events)?;
         Ok(Script {
             events: room,

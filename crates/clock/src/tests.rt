@@ -1,6 +1,6 @@
 //! The end of the clock, which no run can reach.
 
-use crate::{Ahead, Clock, Counting, Script};
+use crate::{Clock, EagerSysTick, LazySysTick, Script};
 use std::test::*;
 
 /// The tick at which a clock ends.
@@ -8,7 +8,7 @@ const LAST: u64 = 1 << 48;
 
 #[test]
 fn counting_reaches_the_last_tick(rt: HostRuntime) -> Result<(), Fail> {
-    let mut clock: Clock<Counting> = Clock::new(Script::new(rt.alloc(), &[])?);
+    let mut clock: Clock<EagerSysTick> = Clock::new(Script::new(rt.alloc(), &[])?);
     clock.ticks = LAST - 1;
     let due = clock.tick_due();
     assert_eq!(rt; clock.now(), LAST);
@@ -18,7 +18,7 @@ fn counting_reaches_the_last_tick(rt: HostRuntime) -> Result<(), Fail> {
 
 #[test]
 fn ahead_reaches_the_last_tick(rt: HostRuntime) -> Result<(), Fail> {
-    let mut clock: Clock<Ahead> = Clock::new(Script::new(rt.alloc(), &[])?);
+    let mut clock: Clock<LazySysTick> = Clock::new(Script::new(rt.alloc(), &[])?);
     clock.ticks = LAST - 1;
     assert!(rt; clock.tick_quietly());
     assert_eq!(rt; clock.now(), LAST);

@@ -39,7 +39,6 @@ impl Model for SysTick {
 }
 
 impl SysTick {
-    /// Returns SysTick after a reset.
     pub(crate) const fn reset() -> Self
         ensures { result ≡ reset_systick }
     {
@@ -137,7 +136,6 @@ impl SysTick {
         self.tickint = value / 2 % 2 == 1;
     }
 
-    /// Returns SYST_RVR.
     pub fn rvr(&self) -> u32
         ensures { result ≡ self.now.reload }
     {
@@ -151,7 +149,6 @@ impl SysTick {
         self.reload = value & COUNTER_MASK;
     }
 
-    /// Returns SYST_CVR.
     pub fn cvr(&self) -> u32
         ensures { result ≡ self.now.current }
     {

@@ -1,6 +1,6 @@
 mod Dumped
 mod Ends
 mod Sent
-mod Talking
+mod SessionEnds
 mod Waiting
 mod Texts

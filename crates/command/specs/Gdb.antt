@@ -4,7 +4,7 @@ use Rattle.command.specs.declared.error.Error.{Error}
 use Rattle.command.specs.declared.error.Error.TheVariants.{Start}
 use Rattle.command.specs.declared.opening.Opened.{Opened}
 use Rattle.command.specs.Opening.{Opens}
-use Rattle.command.specs.Sessions.{SaysNothing, Talked, session_status}
+use Rattle.command.specs.Sessions.{SaysNothing, RanSession, session_status}
 use Rattle.devices.specs.declared.device.Device.{Device}
 use Rattle.gdb_server.specs.Conduct.{conduct, first}
 use Rattle.output.specs.Input.{Reading}
@@ -18,14 +18,16 @@ use Rattle.reference.specs.State.{State}
 use Rattle.serving.specs.Conduct.{course_of}
 use Rattle.serving.specs.Sessions.{Course}
 
--- a session with GDB of a machine of a board with these devices, in a state before the first byte; its clock stays within a limit
+-- a session with GDB of a machine of a board with these devices, in a state before the first byte; its clock stays
+-- within a limit
 unfoldable pub gdb_session : Numbers → List Device → ℕ → State → Course
 gdb_session board devices limit s = course_of conduct (first limit board devices s) s
 
 -- a session of a machine before its first step; or out of memory for the states to which it can go back
 abbrev pub ServesOf : Opened → ℕ → Reading → Reading → Writing → Writing → Result (Unit {0}) Error → Type 0
 ServesOf machine limit before after out out' result =
-    Talked (gdb_session (numbers_of machine.layout) machine.devices.items limit machine.machine.state) machine.machine
+    RanSession (gdb_session (numbers_of machine.layout) machine.devices.items limit machine.machine.state)
+    machine.machine
     before after out out' result
     ⊎ SaysNothing (Start NoMemory) before after out out' result
 

@@ -12,9 +12,9 @@ use Rattle.command.specs.Reports.{ReportsTo}
 use Rattle.command.specs.Running.{RunsOn}
 use Rattle.command.specs.Sending.{IsCut, SendsAll}
 use Rattle.command.specs.Sessions.{SessionTo}
-use Rattle.command.specs.Statuses.{file_status, most_bytes, run_status}
+use Rattle.command.specs.Statuses.{file_status, max_bytes, run_status}
 use Rattle.command.specs.Tasks.{TasksTo}
-use Rattle.command_line.specs.Notices.{Takes}
+use Rattle.command_line.specs.Notices.{TakesArguments}
 use Rattle.command_line.specs.declared.dumps.Dump.{Dump}
 use Rattle.command_line.specs.declared.subcommands.RunOptions.{RunOptions}
 use Rattle.command_line.specs.declared.subcommands.Subcommand.{Subcommand}
@@ -62,17 +62,17 @@ pub record RunsAndSaves (image : Result (List Segment) LoadError) (board : Resul
   pub is : status ≡ run_status run.expect ran done
 
 -- what each subcommand does with the bytes of an image; sessions alone read standard input
-abbrev pub Performs : Subcommand → List ℕ → Result Described BoardError → Reading → Reading → Writing → Writing → ℕ
+abbrev pub CarriesOut : Subcommand → List ℕ → Result Described BoardError → Reading → Reading → Writing → Writing → ℕ
     → Type 0
-Performs (Run run) image board before after old new status =
+CarriesOut (Run run) image board before after old new status =
     RunsAndSaves (image_of image) board run old new status × (after ≡ before)
-Performs (Report report) image board before after old new status =
+CarriesOut (Report report) image board before after old new status =
     ReportsTo (image_of image) board report.steps old new status × (after ≡ before)
-Performs (Tasks tasks) image board before after old new status =
+CarriesOut (Tasks tasks) image board before after old new status =
     TasksTo image board tasks old new status × (after ≡ before)
-Performs (Debug debug) image board before after old new status =
+CarriesOut (Debug debug) image board before after old new status =
     SessionTo (image_of image) board debug.slots before after old new status
-Performs (Gdb gdb) image board before after old new status =
+CarriesOut (Gdb gdb) image board before after old new status =
     GdbTo (image_of image) board gdb.steps before after old new status
 
 -- ---- with the files
@@ -89,9 +89,9 @@ pub record PerformsFiles (subcommand : Subcommand) (before after : Reading) (old
   where
     pub image : List ℕ
     pub board : List ℕ
-    pub image_fits : length image ≤ most_bytes
-    pub board_fits : length board ≤ most_bytes
-    pub performs : Performs subcommand image (board_in_file board) before after old new status
+    pub image_fits : length image ≤ max_bytes
+    pub board_fits : length board ≤ max_bytes
+    pub performs : CarriesOut subcommand image (board_in_file board) before after old new status
 
 abbrev pub DoesSubcommand : Subcommand → Reading → Reading → Writing → Writing → ℕ → Type 0
 DoesSubcommand subcommand before after old new status =
@@ -100,22 +100,22 @@ DoesSubcommand subcommand before after old new status =
 -- ---- with the arguments
 
 -- the answer to arguments that ask for no subcommand: help and the version go to standard output
-abbrev pub Answers : WordsError → Writing → Writing → ℕ → Type 0
-Answers (Wrong text) old new status = (status ≡ 2) × (new ≡ old)
-Answers (Help text) old new status =
+abbrev pub ReportsWordsError : WordsError → Writing → Writing → ℕ → Type 0
+ReportsWordsError (Wrong text) old new status = (status ≡ 2) × (new ≡ old)
+ReportsWordsError (Help text) old new status =
     (status ≡ 2) × (SendsAll (string_bytes text) old new ⊎ IsCut (string_bytes text) old new)
-Answers (Version text) old new status =
+ReportsWordsError (Version text) old new status =
     ((status ≡ 0) × SendsAll (string_bytes text) old new) ⊎ ((status ≡ 5) × IsCut (string_bytes text) old new)
-Answers OutOfMemory old new status = (status ≡ 5) × (new ≡ old)
+ReportsWordsError OutOfMemory old new status = (status ≡ 5) × (new ≡ old)
 
 abbrev pub DoesAsked : Result Subcommand WordsError → Reading → Reading → Writing → Writing → ℕ → Type 0
 DoesAsked (Ok subcommand) before after old new status = DoesSubcommand subcommand before after old new status
-DoesAsked (Err error) before after old new status = Answers error old new status × (after ≡ before)
+DoesAsked (Err error) before after old new status = ReportsWordsError error old new status × (after ≡ before)
 
 -- what the arguments ask for is done
 pub record DoesWords (words : List (List ℕ)) (before after : Reading) (old new : Writing) (status : ℕ) : Type 0 where
   pub asked : Result Subcommand WordsError
-  pub takes : Takes words asked
+  pub takes : TakesArguments words asked
   pub does : DoesAsked asked before after old new status
 
 -- ---- with standard input and output

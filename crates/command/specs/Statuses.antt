@@ -47,5 +47,5 @@ file_status file.Size = 3
 file_status (file.Read error) = 5
 
 -- the most bytes of a file: 16 MiB
-abbrev pub most_bytes : ℕ
-most_bytes = 16 * 2 ^ 20
+abbrev pub max_bytes : ℕ
+max_bytes = 16 * 2 ^ 20

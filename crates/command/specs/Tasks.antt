@@ -5,7 +5,7 @@ use Rattle.access_map.specs.Counting.{Worlds, no_worlds}
 use Rattle.command.specs.declared.error.Error.{Error}
 use Rattle.command.specs.declared.error.Error.TheVariants.{Start, Io}
 use Rattle.command.specs.declared.opening.Opened.{Opened}
-use Rattle.command.specs.declared.telling.Told.{Told}
+use Rattle.command.specs.declared.tasks_command.TasksResult.{TasksResult}
 use Rattle.command.specs.Opening.{Opens}
 use Rattle.command.specs.Sending.{IsCut, SendsAll}
 use Rattle.command.specs.Statuses.{error_status, stop_status}
@@ -42,10 +42,12 @@ pub record CutsText (board : Numbers) (name : ℕ → List ℕ) (allowed : List 
 
 -- the text was sent, and the result says why the run ended and whether all worlds are apart; or memory ran out, and
 -- nothing was put; or a call of the writer failed
-abbrev pub Tells : Numbers → (ℕ → List ℕ) → List Span → Worlds → Stop → Writing → Writing → Result Told Error → Type 0
-Tells board name allowed v why old new (Ok told) =
-    (told.stop ≡ why) × Decides told.apart (AreAllApart board allowed v) × SendsText board name allowed v why old new
-Tells board name allowed v why old new (Err error) =
+abbrev pub WritesTasks : Numbers → (ℕ → List ℕ) → List Span → Worlds → Stop → Writing → Writing
+    → Result TasksResult Error → Type 0
+WritesTasks board name allowed v why old new (Ok outcome) =
+    (outcome.stop ≡ why) × Decides outcome.apart (AreAllApart board allowed v)
+    × SendsText board name allowed v why old new
+WritesTasks board name allowed v why old new (Err error) =
     ((error ≡ Start NoMemory) × (new ≡ old)) ⊎ ((error ≡ Io) × CutsText board name allowed v why old new)
 
 -- ---- a run
@@ -55,23 +57,24 @@ abbrev pub name_in_file : List ℕ → ℕ → List ℕ
 name_in_file file = shown_name (strings_in file (places_of file)) (symbols_in file (places_of file))
 
 -- the worlds of the reference machine's run from a state, with the names of a file, are written
-abbrev pub TellsRun : Numbers → List ℕ → TasksOptions → State → Writing → Writing → Result Told Error → Type 0
-TellsRun board file tasks s old new result =
-    Tells board (name_in_file file) tasks.allowed.items (worlds_after tasks.steps s no_worlds)
+abbrev pub RunsTasks : Numbers → List ℕ → TasksOptions → State → Writing → Writing → Result TasksResult Error → Type 0
+RunsTasks board file tasks s old new result =
+    WritesTasks board (name_in_file file) tasks.allowed.items (worlds_after tasks.steps s no_worlds)
     (ending_of tasks.steps s) old new result
 
 -- a run of a machine before its first step; or a refusal, with which nothing is put
-abbrev pub TellsFrom : List ℕ → TasksOptions → Result Opened Error → Writing → Writing → Result Told Error → Type 0
-TellsFrom file tasks (Ok opened) old new result =
-    TellsRun (numbers_of opened.layout) file tasks opened.machine.state old new result
-TellsFrom file tasks (Err error) old new result = (result ≡ Err error) × (new ≡ old)
+abbrev pub RunsTasksFrom : List ℕ → TasksOptions → Result Opened Error → Writing → Writing → Result TasksResult Error
+    → Type 0
+RunsTasksFrom file tasks (Ok opened) old new result =
+    RunsTasks (numbers_of opened.layout) file tasks opened.machine.state old new result
+RunsTasksFrom file tasks (Err error) old new result = (result ≡ Err error) × (new ≡ old)
 
 -- 0 where all worlds are apart, else 1, where that is expected; otherwise the status of the stop
-abbrev pub told_status : Bool → Told → ℕ
-told_status expected told = if expected then (if told.apart then 0 else 1) else stop_status told.stop
+abbrev pub result_status : Bool → TasksResult → ℕ
+result_status expected outcome = if expected then (if outcome.apart then 0 else 1) else stop_status outcome.stop
 
-abbrev pub tasks_status : Bool → Result Told Error → ℕ
-tasks_status expected (Ok told) = told_status expected told
+abbrev pub tasks_status : Bool → Result TasksResult Error → ℕ
+tasks_status expected (Ok outcome) = result_status expected outcome
 tasks_status expected (Err error) = error_status error
 
 -- the image in a file is run on a board, the text of its worlds is written, and the status is that of the end
@@ -79,6 +82,6 @@ pub record TasksTo (file : List ℕ) (board : Result Described BoardError) (task
     (status : ℕ) : Type 0 where
   pub opened : Result Opened Error
   pub opens : Opens (image_of file) board opened
-  pub result : Result Told Error
-  pub tells : TellsFrom file tasks opened old new result
+  pub result : Result TasksResult Error
+  pub writes : RunsTasksFrom file tasks opened old new result
   pub is : status ≡ tasks_status tasks.expect_apart result

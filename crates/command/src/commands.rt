@@ -2,7 +2,8 @@
 
 ghost use Rattle.std.specs.Prelude.{◌≡◌, ◌≢◌, map, string_bytes};
 ghost use Rattle.command.specs.Opening.{board_in_file};
-ghost use Rattle.command.specs.Program.{Answers, DoesSubcommand, DoesWords, EndsWith, Performs, RunsAndSaves};
+ghost use Rattle.command.specs.Program.{ReportsWordsError, DoesSubcommand, DoesWords, EndsWith, CarriesOut};
+ghost use Rattle.command.specs.Program.{RunsAndSaves};
 ghost use Rattle.command.specs.Statuses.{error_status, file_status};
 ghost use Rattle.command.specs.declared.error.Error.TheVariants.{Io};
 ghost use Rattle.platform.specs.Images.{image_of};
@@ -21,7 +22,7 @@ use crate::running::{end, run, state_file};
 use crate::sending::send;
 use crate::state_file::StateFile;
 use crate::streams::over_streams;
-use crate::telling::tasks;
+use crate::tasks_command::tasks;
 use command_line::{RunOptions, Subcommand, WordsError, subcommand_of};
 use machine::{In, Out, Over};
 use messages::{Escaped, Messages};
@@ -102,7 +103,7 @@ pub fn do_words<R: Files + AllocGlobal, I: In, O: Out, E: Write>(
 /// Answers arguments that ask for no subcommand. Returns 2; 0 for the version; 5 where the version can't be
 /// written or memory ran out.
 pub fn answer<O: Out, E: Write>(error: WordsError, out: &mut O, err: &mut E) -> u8
-    ensures { Answers error (O.writing out.old) (O.writing out.new) result }
+    ensures { ReportsWordsError error (O.writing out.old) (O.writing out.new) result }
 {
     match error {
         WordsError::Wrong(text) => {
@@ -166,7 +167,7 @@ fn perform<R: Files + AllocGlobal, I: In, O: Out, E: Write>(
     out: &mut O,
     err: &mut E,
 ) -> u8
-    ensures { Performs subcommand.entry image.entry.bytes.now (board_in_file board.entry.bytes.now)
+    ensures { CarriesOut subcommand.entry image.entry.bytes.now (board_in_file board.entry.bytes.now)
         (I.reading input.old) (I.reading input.new) (O.writing out.old) (O.writing out.new) result }
 {
     match subcommand {

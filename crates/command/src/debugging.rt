@@ -2,7 +2,7 @@
 
 ghost use Rattle.std.specs.Prelude.{◌≡◌};
 ghost use Rattle.command.specs.Opening.{board_in_file};
-ghost use Rattle.command.specs.Sessions.{SessionTo, TalksOf};
+ghost use Rattle.command.specs.Sessions.{SessionTo, RunsSessionOf};
 ghost use Rattle.platform.specs.Images.{image_of};
 
 use crate::error::Error;
@@ -49,7 +49,7 @@ fn hold_session<I: In, O: Out>(
     input: &mut I,
     out: &mut O,
 ) -> Result<(), Error>
-    ensures { TalksOf opened slots (I.reading input.old) (I.reading input.new)
+    ensures { RunsSessionOf opened slots (I.reading input.old) (I.reading input.new)
         (O.writing out.old) (O.writing out.new) result }
 {
     let Opened {

@@ -1,7 +1,7 @@
 //! The arguments, and the files that they name.
 
 ghost use Rattle.std.specs.Prelude.{◌≤◌, IfOk, vec_len};
-ghost use Rattle.command.specs.Statuses.{most_bytes};
+ghost use Rattle.command.specs.Statuses.{max_bytes};
 
 use std::io::Read;
 use std::rt::{Env, Files};
@@ -11,7 +11,7 @@ use std::{env, fs, io, str};
 const LIMIT: u64 = 0x100_0000;
 
 /// The most bytes of an argument whose place is found: 128 KiB, as Linux passes at most.
-const MOST_ARGUMENT_BYTES: usize = 0x2_0000;
+const MAX_ARGUMENT_BYTES: usize = 0x2_0000;
 
 /// Returns all arguments, the program's name among them. The error for an argument that isn't a text says
 /// which one it is.
@@ -49,7 +49,7 @@ fn placed<R: Env + AllocGlobal>(rt: &R, error: io::Error) -> io::Error {
 /// Returns the place of the first argument that isn't a text: 0 for the program's name.
 fn no_text<R: Env + AllocGlobal>(rt: &R) -> Option<usize> {
     let mut room = Vec::new(rt.alloc());
-    if room.resize(MOST_ARGUMENT_BYTES, 0u8).is_err() {
+    if room.resize(MAX_ARGUMENT_BYTES, 0u8).is_err() {
         return None;
     }
     'words: for place in 0..usize::MAX {
@@ -81,7 +81,7 @@ pub enum FileError {
 
 /// Returns the bytes of a file, at most 16 MiB.
 pub fn read_file<R: Files + AllocGlobal>(rt: &R, path: &str) -> Result<Vec<u8>, FileError>
-    ensures { IfOk result (λ bytes. vec_len bytes ≤ most_bytes) }
+    ensures { IfOk result (λ bytes. vec_len bytes ≤ max_bytes) }
 {
     let mut bytes = Vec::new(rt.alloc());
     let file = match fs::open(rt, path) {

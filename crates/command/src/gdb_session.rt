@@ -13,7 +13,7 @@ use crate::files::InputFile;
 use crate::opening::{Opened, open};
 use crate::reason::refuse;
 use gdb_server::Server;
-use machine::{Decider, DueTicks, In, KeptCode, Layout, Levels, Machine, Out, StartError};
+use machine::{Decider, Exceptions, In, KeptCode, Layout, Machine, Out, StartError, SysTickState};
 use serving::{SessionError, serve};
 use std::alloc::Global;
 use std::io::Write;
@@ -73,7 +73,7 @@ fn hold_gdb_session<I: In, O: Out>(
 
 /// Holds a session with GDB of a machine of a board, by a server before its first byte.
 #[tactic(auto, unfolding(crate::specs::Gdb::gdb_session))]
-fn serve_machine<D: Decider, C: KeptCode, L: Levels, U: DueTicks, I: In, O: Out>(
+fn serve_machine<D: Decider, C: KeptCode, L: Exceptions, U: SysTickState, I: In, O: Out>(
     server: Server<L, U>,
     machine: &mut Machine<D, C, L, U>,
     layout: Layout,
@@ -82,7 +82,7 @@ fn serve_machine<D: Decider, C: KeptCode, L: Levels, U: DueTicks, I: In, O: Out>
     out: &mut O,
 ) -> Result<(), SessionError>
     requires { server ≡ first steps (numbers_of layout) server.session.devices machine.old.state }
-    ensures talked { Sessions (gdb_session (numbers_of layout) server.session.devices steps machine.old.state)
+    ensures held { Sessions (gdb_session (numbers_of layout) server.session.devices steps machine.old.state)
         machine.old machine.new
         (I.reading input.old) (I.reading input.new) (O.writing out.old) (O.writing out.new) result }
     ensures sent { NothingWaits (O.writing out.new) result }

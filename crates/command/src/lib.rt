@@ -16,7 +16,7 @@ mod running;
 mod sending;
 mod state_file;
 mod streams;
-mod telling;
+mod tasks_command;
 
 pub use command_line::{Subcommand, WordsError};
 pub use commands::{answer, program, refuse_words};
@@ -28,4 +28,4 @@ pub use opening::{Opened, open};
 pub use reason::write_reason;
 pub use reporting::report;
 pub use running::{Ran, run};
-pub use telling::{Told, tasks};
+pub use tasks_command::{TasksResult, tasks};

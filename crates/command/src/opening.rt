@@ -1,6 +1,6 @@
 //! The machine of an image on a board, before its first step.
 
-ghost use Rattle.command.specs.Opening.{Opens, Reads, board_in_file};
+ghost use Rattle.command.specs.Opening.{Opens, ReadsBoard, board_in_file};
 ghost use Rattle.platform.specs.Images.{image_of};
 
 use crate::error::Error;
@@ -39,7 +39,7 @@ pub fn open(alloc: Global, image: &[u8], board: &[u8]) -> Result<Opened, Error>
 
 /// Returns the board that the bytes of a file describe.
 pub fn board_of_file(alloc: Global, bytes: &[u8]) -> Result<Board, BoardError>
-    ensures { Reads (board_in_file bytes.now) result }
+    ensures { ReadsBoard (board_in_file bytes.now) result }
 {
     match str::from_utf8(bytes) {
         Ok(text) => read_board(alloc, text),

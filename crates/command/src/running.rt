@@ -146,7 +146,7 @@ fn run_through<O: Out>(
 {
     match machine.run_selected(options.trace, options.steps, out) {
         Ok(stop) => match put_state(machine, options.state, out) {
-            Ok(()) => match out.hand_on() {
+            Ok(()) => match out.flush_all() {
                 Ok(()) => Ok(stop),
                 Err(_) => Err(Error::Io),
             },

@@ -10,7 +10,7 @@ pub fn send<O: Out>(text: &[u8], out: &mut O) -> Result<(), IoError>
     ensures { Sends text.now (O.writing out.old) (O.writing out.new) result }
 {
     match out.put_all(text) {
-        Ok(()) => match out.hand_on() {
+        Ok(()) => match out.flush_all() {
             Ok(()) => Ok(()),
             Err(error) => Err(error),
         },

@@ -6,16 +6,16 @@ use Rattle.command_line.specs.declared.dumps.Dump.{Dump}
 use Rattle.debugger_commands.specs.Words.{number, number_within}
 
 -- the texts before and after a character
-pub record Parts : Type 0 where
+pub record SplitText : Type 0 where
   pub before : List ℕ
   pub after : List ℕ
 
 -- two borrowed texts
-abbrev pub parts_of : Bor (List ℕ) × Bor (List ℕ) → Parts
+abbrev pub parts_of : Bor (List ℕ) × Bor (List ℕ) → SplitText
 parts_of parts = record { before = parts.0.now; after = parts.1.now }
 
 -- a text around the first of these characters, if it has one
-abbrev pub parts_at : ℕ → List ℕ → Option Parts
+abbrev pub parts_at : ℕ → List ℕ → Option SplitText
 parts_at c text =
     if nat_lt (position_or_len (λ b. b == c) text) (length text)
     then Some (record { before = before_first (λ b. b == c) text; after = after_first (λ b. b == c) text })
@@ -40,11 +40,11 @@ of_numbers (Some a) None path = None
 of_numbers (Some a) (Some n) path = Some (record { address = a; length = n; path = path })
 
 -- two numbers with a colon between them: the length isn't 0
-abbrev pub of_range : Option Parts → List ℕ → Option DumpValue
+abbrev pub of_range : Option SplitText → List ℕ → Option DumpValue
 of_range None path = None
 of_range (Some range) path = of_numbers (number range.before) (number_within 1 (2 ^ 32 - 1) range.after) path
 
-abbrev pub of_parts : Option Parts → Option DumpValue
+abbrev pub of_parts : Option SplitText → Option DumpValue
 of_parts None = None
 of_parts (Some parts) = of_range (parts_at colon parts.before) parts.after
 
@@ -57,10 +57,10 @@ abbrev pub value_of : Dump → DumpValue
 value_of dump = record { address = dump.address; length = dump.length; path = dump.path.now }
 
 -- the most dumps of a run
-abbrev pub most_dumps : ℕ
-most_dumps = 16
+abbrev pub max_dumps : ℕ
+max_dumps = 16
 
 -- each text asks for the dump at its place
 abbrev pub AreDumps : List (List ℕ) → List Dump → Type 0
 AreDumps texts dumps =
-    (length texts ≤ most_dumps) × (map dump_named texts ≡ map (λ d. Some (value_of d)) dumps)
+    (length texts ≤ max_dumps) × (map dump_named texts ≡ map (λ d. Some (value_of d)) dumps)

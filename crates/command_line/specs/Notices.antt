@@ -51,9 +51,9 @@ abbrev pub Refuses : ErrorKind → WordsError → Type 0
 Refuses k error = (notice_of error ≡ notice_for k) ⊎ (notice_of error ≡ memory)
 
 -- a value that fits; or a usage error exactly where none fits, or out of memory for its message
-abbrev pub Reads : {V : Type 0} → (V → Type 0) → Result V WordsError → Type 0
-Reads Fits (Ok value) = Fits value
-Reads {V = V} Fits (Err error) =
+abbrev pub ReadsValue : {V : Type 0} → (V → Type 0) → Result V WordsError → Type 0
+ReadsValue Fits (Ok value) = Fits value
+ReadsValue {V = V} Fits (Err error) =
     ((notice_of error ≡ usage) × ((value : V) → ¬ Fits value)) ⊎ (notice_of error ≡ memory)
 
 -- `clap` takes the arguments
@@ -67,9 +67,9 @@ IsRefused words error = (k : ErrorKind) × IsAmong k (fault_of marm words) × (n
 -- The program's arguments, its name before them: those that `clap` takes are read as its matches say, and are a usage
 -- error exactly where these have no subcommand. Others get the notice for one of the errors that `clap` finds. Out of
 -- memory may come in place of all.
-abbrev pub Takes : List Text → Result Subcommand WordsError → Type 0
-Takes words (Ok subcommand) = IsTaken words × IsAsked (subcommand_of marm words) subcommand
-Takes words (Err error) =
+abbrev pub TakesArguments : List Text → Result Subcommand WordsError → Type 0
+TakesArguments words (Ok subcommand) = IsTaken words × IsAsked (subcommand_of marm words) subcommand
+TakesArguments words (Err error) =
     (notice_of error ≡ memory)
     ⊎ (IsRefused words error
     ⊎ (IsTaken words × (notice_of error ≡ usage)

@@ -2,7 +2,7 @@
 
 ghost use Rattle.std.specs.Prelude.{◌≡◌, ◌⊎◌, map};
 ghost use Rattle.command_line.specs.Allowed.{AreAllowed, span_named};
-ghost use Rattle.command_line.specs.Notices.{Reads, memory, notice_of, usage};
+ghost use Rattle.command_line.specs.Notices.{ReadsValue, memory, notice_of, usage};
 ghost use Rattle.command_line.specs.Subcommands.{texts_in};
 
 use crate::dumps::parts_at;
@@ -13,7 +13,7 @@ use mpu::Span;
 use std::alloc::Global;
 
 /// The most spans of a run.
-const MOST_SPANS: usize = 16;
+const MAX_SPANS: usize = 16;
 
 /// What `--allow` takes.
 const ALLOW_ADVICE: &str = "\
@@ -22,7 +22,7 @@ const ALLOW_ADVICE: &str = "\
 
 /// Returns the spans of addresses that texts ask for, in their order.
 pub fn spans_in<'a>(alloc: Global, texts: Option<&[&'a str]>) -> Result<Vec<Span>, WordsError>
-    ensures { Reads (λ spans. AreAllowed (texts_in texts.entry) spans.items) result }
+    ensures { ReadsValue (λ spans. AreAllowed (texts_in texts.entry) spans.items) result }
 {
     match texts {
         Some(texts) => spans_named(alloc, texts),
@@ -33,10 +33,10 @@ pub fn spans_in<'a>(alloc: Global, texts: Option<&[&'a str]>) -> Result<Vec<Span
 /// Returns the spans of addresses that texts ask for, in their order.
 #[tactic(auto, using(crate::proofs::Allowing::allowing))]
 fn spans_named<'a>(alloc: Global, texts: &[&'a str]) -> Result<Vec<Span>, WordsError>
-    ensures { Reads (λ spans. AreAllowed (map (λ t. t.now) texts.entry.now) spans.items) result }
+    ensures { ReadsValue (λ spans. AreAllowed (map (λ t. t.now) texts.entry.now) spans.items) result }
 {
-    if texts.len() > MOST_SPANS {
-        return Err(wrong_span(alloc, texts[MOST_SPANS]));
+    if texts.len() > MAX_SPANS {
+        return Err(wrong_span(alloc, texts[MAX_SPANS]));
     }
     let mut spans = Vec::new(alloc);
     'texts: for text in texts {

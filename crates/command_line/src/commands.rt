@@ -11,10 +11,10 @@ use clap::{Arg, ArgAction, Command};
 use std::alloc::{AllocError, Global};
 
 /// The most steps of a run.
-pub const MOST_STEPS: u64 = 0x1_0000_0000;
+pub const MAX_STEPS: u64 = 0x1_0000_0000;
 
 /// The most slots of a debug session.
-pub const MOST_SLOTS: u64 = 8;
+pub const MAX_SLOTS: u64 = 8;
 
 /// What the help says of `--steps`.
 pub const STEPS_HELP: &str =
@@ -261,7 +261,7 @@ fn limit<'a>(alloc: Global, help: &'a str) -> Arg<'a>
     ensures rule { rule_of result ≡ spec.limit }
     ensures local { result.global ≡ false }
 {
-    option(alloc, "steps", "N", help).value_parser(ValueParser::unsigned(0, MOST_STEPS))
+    option(alloc, "steps", "N", help).value_parser(ValueParser::unsigned(0, MAX_STEPS))
 }
 
 /// Returns `--steps N`, which has to be there.

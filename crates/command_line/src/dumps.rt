@@ -2,7 +2,7 @@
 
 ghost use Rattle.std.specs.Prelude.{◌≡◌, ◌⊎◌, ◌<◌, map, option_map};
 ghost use Rattle.command_line.specs.Dumps.{AreDumps, dump_named, parts_at, parts_of, value_of};
-ghost use Rattle.command_line.specs.Notices.{Reads, memory, notice_of, usage};
+ghost use Rattle.command_line.specs.Notices.{ReadsValue, memory, notice_of, usage};
 ghost use Rattle.command_line.specs.Subcommands.{texts_in};
 
 use crate::subcommands::wrong_value;
@@ -11,7 +11,7 @@ use debugger_commands::{number, number_within};
 use std::alloc::Global;
 
 /// The most dumps of a run.
-const MOST_DUMPS: usize = 16;
+const MAX_DUMPS: usize = 16;
 
 /// What `--dump` takes.
 const DUMP_ADVICE: &str = "\
@@ -32,7 +32,7 @@ pub struct Dump<'a> {
 
 /// Returns the dumps that texts ask for, in their order.
 pub fn dumps_in<'a>(alloc: Global, texts: Option<&[&'a str]>) -> Result<Vec<Dump<'a>>, WordsError>
-    ensures { Reads (λ dumps. AreDumps (texts_in texts.entry) dumps.items) result }
+    ensures { ReadsValue (λ dumps. AreDumps (texts_in texts.entry) dumps.items) result }
 {
     match texts {
         Some(texts) => dumps_named(alloc, texts),
@@ -43,10 +43,10 @@ pub fn dumps_in<'a>(alloc: Global, texts: Option<&[&'a str]>) -> Result<Vec<Dump
 /// Returns the dumps that texts ask for, in their order.
 #[tactic(auto, using(crate::proofs::Dumping::dumping))]
 fn dumps_named<'a>(alloc: Global, texts: &[&'a str]) -> Result<Vec<Dump<'a>>, WordsError>
-    ensures { Reads (λ dumps. AreDumps (map (λ t. t.now) texts.entry.now) dumps.items) result }
+    ensures { ReadsValue (λ dumps. AreDumps (map (λ t. t.now) texts.entry.now) dumps.items) result }
 {
-    if texts.len() > MOST_DUMPS {
-        return Err(wrong_dump(alloc, texts[MOST_DUMPS]));
+    if texts.len() > MAX_DUMPS {
+        return Err(wrong_dump(alloc, texts[MAX_DUMPS]));
     }
     let mut dumps = Vec::new(alloc);
     'texts: for text in texts {

@@ -7,7 +7,7 @@ ghost use Rattle.platform.specs.Text.{line_feed, stop_text};
 ghost use Rattle.platform.specs.declared.stop.Stop.TheVariants as stop;
 
 use instruction_set::unpredictable::UnpredictableCase;
-use platform::stop::{LeftOut, NamedStop, Stop};
+use platform::stop::{NamedStop, Stop, Unsupported};
 use trace::lines::stop_line;
 
 /// Returns a text without the `stop ` that it may begin with.
@@ -34,7 +34,7 @@ pub fn stop_named(words: &str) -> Option<Stop>
     if let Some(stop) = case_named::<UnpredictableCase>(words) {
         return Some(stop);
     }
-    case_named::<LeftOut>(words)
+    case_named::<Unsupported>(words)
 }
 
 /// Returns the stop with these words, if it is one that has neither a number nor a name.

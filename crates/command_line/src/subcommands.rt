@@ -2,7 +2,7 @@
 
 ghost use Rattle.std.specs.Prelude.{◌≡◌, ◌⊎◌, ◌==◌, IfSome, None, codes, slice_index};
 ghost use Rattle.clap.specs.Words.{first_of, found_of, rows_of, subcommand_rows_of};
-ghost use Rattle.command_line.specs.Notices.{Reads, memory, notice_of, usage};
+ghost use Rattle.command_line.specs.Notices.{ReadsValue, memory, notice_of, usage};
 ghost use Rattle.command_line.specs.Stops.{IsExpected};
 ghost use Rattle.command_line.specs.Subcommands.{HasLimit, HasSlots, HasSteps, IsAsked, IsDebug, IsGdb, IsNamed};
 ghost use Rattle.command_line.specs.Subcommands.{IsReport, IsRun, IsSelection};
@@ -11,7 +11,7 @@ ghost use Rattle.command_line.specs.Subcommands.{IsSteps, IsText, board_path, im
 ghost use Rattle.command_line.specs.Subcommands.{selection_named, text_of, texts_in, texts_of};
 
 use crate::allowed::spans_in;
-use crate::commands::{MOST_SLOTS, MOST_STEPS};
+use crate::commands::{MAX_SLOTS, MAX_STEPS};
 use crate::dumps::{Dump, dumps_in};
 use crate::stops::{stop_named, without_stop};
 use crate::words::WordsError;
@@ -137,7 +137,7 @@ pub fn subcommand_in<'a>(
     alloc: Global,
     matches: &ArgMatches<'a>,
 ) -> Result<Subcommand<'a>, WordsError>
-    ensures { Reads (IsAsked (subcommand_rows_of matches.now)) result }
+    ensures { ReadsValue (IsAsked (subcommand_rows_of matches.now)) result }
 {
     match matches.subcommand() {
         Some((name, matches)) => subcommand_named(alloc, name, matches),
@@ -151,7 +151,7 @@ fn subcommand_named<'a>(
     name: &str,
     matches: &ArgMatches<'a>,
 ) -> Result<Subcommand<'a>, WordsError>
-    ensures { Reads (IsNamed name.now (rows_of (found_of matches.now))) result }
+    ensures { ReadsValue (IsNamed name.now (rows_of (found_of matches.now))) result }
 {
     if name == "run" {
         Ok(Subcommand::Run(run_options(alloc, matches)?))
@@ -170,7 +170,7 @@ fn subcommand_named<'a>(
 
 /// Returns the options of `run`.
 fn run_options<'a>(alloc: Global, run: &ArgMatches<'a>) -> Result<RunOptions<'a>, WordsError>
-    ensures { Reads (IsRun (rows_of (found_of run.now))) result }
+    ensures { ReadsValue (IsRun (rows_of (found_of run.now))) result }
 {
     Ok(RunOptions {
         board: text_in(alloc, value_of(run, "board"))?,
@@ -188,7 +188,7 @@ fn report_options<'a>(
     alloc: Global,
     report: &ArgMatches<'a>,
 ) -> Result<ReportOptions<'a>, WordsError>
-    ensures { Reads (IsReport (rows_of (found_of report.now))) result }
+    ensures { ReadsValue (IsReport (rows_of (found_of report.now))) result }
 {
     Ok(ReportOptions {
         board: text_in(alloc, value_of(report, "board"))?,
@@ -199,7 +199,7 @@ fn report_options<'a>(
 
 /// Returns the options of `tasks`.
 fn tasks_options<'a>(alloc: Global, tasks: &ArgMatches<'a>) -> Result<TasksOptions<'a>, WordsError>
-    ensures { Reads (IsTasks (rows_of (found_of tasks.now))) result }
+    ensures { ReadsValue (IsTasks (rows_of (found_of tasks.now))) result }
 {
     Ok(TasksOptions {
         board: text_in(alloc, value_of(tasks, "board"))?,
@@ -212,7 +212,7 @@ fn tasks_options<'a>(alloc: Global, tasks: &ArgMatches<'a>) -> Result<TasksOptio
 
 /// Returns the options of `debug`.
 fn debug_options<'a>(alloc: Global, debug: &ArgMatches<'a>) -> Result<DebugOptions<'a>, WordsError>
-    ensures { Reads (IsDebug (rows_of (found_of debug.now))) result }
+    ensures { ReadsValue (IsDebug (rows_of (found_of debug.now))) result }
 {
     Ok(DebugOptions {
         board: text_in(alloc, value_of(debug, "board"))?,
@@ -223,7 +223,7 @@ fn debug_options<'a>(alloc: Global, debug: &ArgMatches<'a>) -> Result<DebugOptio
 
 /// Returns the options of `gdb`.
 fn gdb_options<'a>(alloc: Global, gdb: &ArgMatches<'a>) -> Result<GdbOptions<'a>, WordsError>
-    ensures { Reads (IsGdb (rows_of (found_of gdb.now))) result }
+    ensures { ReadsValue (IsGdb (rows_of (found_of gdb.now))) result }
 {
     Ok(GdbOptions {
         board: text_in(alloc, value_of(gdb, "board"))?,
@@ -258,7 +258,7 @@ fn values_of<'m, 'a>(matches: &'m ArgMatches<'a>, id: &str) -> Option<&'m [&'a s
 
 /// Returns the text of an argument that `clap` has found.
 fn text_in<'a>(alloc: Global, text: Option<&'a str>) -> Result<&'a str, WordsError>
-    ensures { Reads (IsText (text_of text.entry)) result }
+    ensures { ReadsValue (IsText (text_of text.entry)) result }
 {
     match text {
         Some(text) => Ok(text),
@@ -268,7 +268,7 @@ fn text_in<'a>(alloc: Global, text: Option<&'a str>) -> Result<&'a str, WordsErr
 
 /// Returns the number of steps in a text.
 fn steps_in(alloc: Global, text: Option<&str>) -> Result<u64, WordsError>
-    ensures { Reads (HasSteps (text_of text.entry)) result }
+    ensures { ReadsValue (HasSteps (text_of text.entry)) result }
 {
     let text = text_in(alloc, text)?;
     match number_in(text) {
@@ -279,23 +279,23 @@ fn steps_in(alloc: Global, text: Option<&str>) -> Result<u64, WordsError>
 
 /// Returns the number of steps in a text, 2^32 where there is none.
 fn limit_in(alloc: Global, text: Option<&str>) -> Result<u64, WordsError>
-    ensures { Reads (HasLimit (text_of text.entry)) result }
+    ensures { ReadsValue (HasLimit (text_of text.entry)) result }
 {
     match text {
         Some(_) => steps_in(alloc, text),
-        None => Ok(MOST_STEPS),
+        None => Ok(MAX_STEPS),
     }
 }
 
 /// Returns the number of slots in a text, 0 where there is none.
 fn slots_in(alloc: Global, text: Option<&str>) -> Result<u8, WordsError>
-    ensures { Reads (HasSlots (text_of text.entry)) result }
+    ensures { ReadsValue (HasSlots (text_of text.entry)) result }
 {
     let Some(text) = text else {
         return Ok(0);
     };
     match number_in(text) {
-        Some(slots) if slots <= MOST_SLOTS => Ok(slots as u8),
+        Some(slots) if slots <= MAX_SLOTS => Ok(slots as u8),
         _ => Err(wrong_value(alloc, text, "--slots <N>", SLOTS_ADVICE)),
     }
 }
@@ -310,7 +310,7 @@ fn number_in(text: &str) -> Option<u64>
         return None;
     }
     match text.parse::<u64>() {
-        Ok(steps) if steps <= MOST_STEPS => Some(steps),
+        Ok(steps) if steps <= MAX_STEPS => Some(steps),
         _ => None,
     }
 }
@@ -327,7 +327,7 @@ fn has_plus(text: &str) -> bool
 
 /// Returns the selection that is asked for: all events where none is named.
 fn selection_in(alloc: Global, name: Option<&str>) -> Result<TraceSelection, WordsError>
-    ensures { Reads (IsSelection (text_of name.entry)) result }
+    ensures { ReadsValue (IsSelection (text_of name.entry)) result }
 {
     let Some(name) = name else {
         return Ok(TraceSelection::All);
@@ -361,7 +361,7 @@ fn selection_named(name: &str) -> Option<TraceSelection>
 
 /// Returns the stop that is expected.
 fn stop_in(alloc: Global, words: Option<&str>) -> Result<Option<Stop>, WordsError>
-    ensures { Reads (IsExpected (text_of words.entry)) result }
+    ensures { ReadsValue (IsExpected (text_of words.entry)) result }
 {
     let Some(words) = words else {
         return Ok(None);

@@ -1,6 +1,6 @@
 //! The number in the texts of `--steps`, beside the constant that they repeat, and the words of `gdb`.
 
-use crate::commands::{LIMIT_HELP, MOST_STEPS, STEPS_HELP};
+use crate::commands::{LIMIT_HELP, MAX_STEPS, STEPS_HELP};
 use crate::subcommands::{STEPS_ADVICE, Subcommand};
 use crate::words::subcommand_of;
 use std::alloc::Global;
@@ -8,7 +8,7 @@ use std::test::*;
 
 #[test]
 fn the_texts_of_steps_have_the_most_steps(rt: HostRuntime) -> Result<(), Fail> {
-    let range = format!(in rt.alloc(); "from 0 to {MOST_STEPS}")?;
+    let range = format!(in rt.alloc(); "from 0 to {MAX_STEPS}")?;
     assert!(rt; STEPS_HELP.ends_with(range.as_str()));
     let advice = format!(in rt.alloc(); "--steps takes a decimal number {}.\n", range.as_str())?;
     assert!(rt; STEPS_ADVICE == advice.as_str());

@@ -1,7 +1,7 @@
 //! The arguments of the program, as `clap` reads them.
 
 ghost use Rattle.std.specs.Prelude.{map, string_bytes};
-ghost use Rattle.command_line.specs.Notices.{Takes};
+ghost use Rattle.command_line.specs.Notices.{TakesArguments};
 
 use crate::commands::marm;
 use crate::refusals::error_of;
@@ -23,7 +23,7 @@ pub enum WordsError {
 
 /// Returns the subcommand that the arguments ask for; the first one is the program's name.
 pub fn subcommand_of<'a>(alloc: Global, words: &'a [String]) -> Result<Subcommand<'a>, WordsError>
-    ensures { Takes (map string_bytes words.entry.now) result }
+    ensures { TakesArguments (map string_bytes words.entry.now) result }
 {
     let Ok(command) = marm(alloc) else {
         return Err(WordsError::OutOfMemory);

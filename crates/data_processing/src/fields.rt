@@ -7,7 +7,6 @@ ghost use Rattle.instruction_set.specs.Words.{bits, sign_extended};
 use instruction_set::data_processing::{ClearField, ExtractField, InsertField};
 use regs::Regs;
 
-/// Returns the lowest `width` bits.
 #[inline]
 #[tactic(auto, using(crate::proofs::FieldsOfWords::all_bits))]
 fn low_bits(x: u32, width: u8) -> u32

@@ -71,7 +71,6 @@ fn low_word(value: i64) -> u32
     (value.cast_unsigned() & 0xFFFF_FFFF) as u32
 }
 
-/// Returns whether two numbers differ.
 #[inline]
 fn differs(x: i64, y: i64) -> bool
     ensures { result ≡ not (int_eq x y) }

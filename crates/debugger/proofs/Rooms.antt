@@ -12,7 +12,8 @@ use Rattle.debugger.specs.Answers.{after_edge, answer, answer_by, change_piece, 
 use Rattle.debugger.specs.Answers.{closing_piece, back_piece, edge_signal, ends_at, hit_before, is_closed, placed}
 use Rattle.debugger.specs.Answers.{replies, run_on, run_pieces, saved_after, task_on, task_piece, task_pieces}
 use Rattle.debugger.specs.Held.{Held, held_after, held_after_line, held_first, holding, kept_of}
-use Rattle.debugger.specs.Sessions.{Kept, after_line, debugging, is_line_feed, line_asked, next, opened, session_of}
+use Rattle.debugger.specs.Sessions.{SessionData, after_line, debugging, is_line_feed, line_asked, next, opened}
+use Rattle.debugger.specs.Sessions.{session_of}
 use Rattle.debugger.specs.Slots.{HaveRoom, Slot, saved_in, saved_there, slots_after}
 use Rattle.debugger_commands.specs.declared.changes.Change.{Change}
 use Rattle.debugger_commands.specs.declared.changes.Change.TheVariants as change
@@ -25,7 +26,7 @@ use Rattle.debugger_commands.specs.Conditions.{first_hit}
 use Rattle.debugger_commands.specs.Settings.{Settings, opened_settings, settings_after, without_conditions}
 use Rattle.machine.specs.Foresight.{is_instruction_next}
 use Rattle.platform.specs.declared.error.PlaceError.{PlaceError}
-use Rattle.platform.specs.declared.exception.TheConstants.{MOST_INTERRUPTS}
+use Rattle.platform.specs.declared.exception.TheConstants.{MAX_INTERRUPTS}
 use Rattle.platform.specs.declared.script.Signal.TheVariants as signal
 use Rattle.platform.specs.Boards.{Numbers}
 use Rattle.reference.specs.declared.place.Place.{Place}
@@ -37,7 +38,7 @@ use Rattle.step_laws.specs.SizeLaw.{AreOfOneBoard, KeepsBoard}
 use Rattle.task_laws.specs.declared.task.TaskEnd.TheVariants.{NotTask}
 use Rattle.task_laws.specs.Tasks.{is_task}
 use Rattle.serving.proofs.Lifting.{course_seen}
-use Rattle.serving.proofs.Telling.{last-append}
+use Rattle.serving.proofs.Delivering.{last-append}
 use Rattle.serving.specs.Conduct.{course_of}
 use Rattle.serving.specs.Pieces.{Piece, last_state}
 
@@ -90,7 +91,7 @@ placed_board s (Some value) = alter_board s value
 
 edge_board : (s : State) (how : Edge) (k : ℕ) → KeepsBoard s (after_edge s how k)
 edge_board s how k =
-    cond_both (nat_lt k MOST_INTERRUPTS) _ _ (KeepsBoard s) (λ e. signal_board s (edge_signal how k)) (λ e. tt)
+    cond_both (nat_lt k MAX_INTERRUPTS) _ _ (KeepsBoard s) (λ e. signal_board s (edge_signal how k)) (λ e. tt)
 
 back_by : (s : State) (slot : Slot) (b : Bool) → slot.is_saved ≡ b → AreOfOneBoard slot.state.bus s.bus
     → Stays s (back_piece s (saved_there slot)).state
@@ -255,4 +256,4 @@ pub session_is : (board : Numbers) (slots : List Slot) (h : Held) (s : State) �
 unfolding session_of
 session_is board slots h s e =
     course_seen kept_of held_after debugging holds h s
-    ∙ ap (λ (k : Kept). course_of debugging k s) (ap kept_of e ∙ opened_is board slots)
+    ∙ ap (λ (k : SessionData). course_of debugging k s) (ap kept_of e ∙ opened_is board slots)

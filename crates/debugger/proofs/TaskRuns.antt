@@ -16,7 +16,7 @@ use Rattle.reference.specs.State.{State}
 use Rattle.reference.specs.Step.{step}
 use Rattle.platform.specs.Events.{lines}
 use Rattle.task_laws.specs.declared.task.TaskEnd.{TaskEnd}
-use Rattle.task_laws.specs.Tasks.{AreInstructions, Ends}
+use Rattle.task_laws.specs.Tasks.{AreInstructions, EndsTask}
 use Rattle.serving.specs.Pieces.{Piece, last_state, texts}
 
 -- the lines of no step, and of one step more
@@ -35,25 +35,25 @@ record RanFrom (k : Settings) (all m : ℕ) (s : State) (pieces : List Piece) : 
   end : TaskEnd
   few : steps ≤ all
   instructions : AreInstructions steps s
-  ends : Ends all steps (after steps s) end
+  ends : EndsTask all steps (after steps s) end
   state : last_state (after m s) pieces ≡ after steps s
   text : lines (written k (events_of m s)) ++ texts pieces
       ≡ lines (written k (events_of steps s)) ++ task_text end
 
 -- all steps were made
-ends_all : (all m : ℕ) (last : State) (o : Option Stop) → last.stop ≡ o → m ≡ all → Ends all m last (end_of o false)
+ends_all : (all m : ℕ) (last : State) (o : Option Stop) → last.stop ≡ o → m ≡ all → EndsTask all m last (end_of o false)
 ends_all all m last (Some why) e same = e
 ends_all all m last None e same = (same, e)
 
 -- the next step isn't an Instruction step
 ends_before : (all m : ℕ) (last : State) (o : Option Stop) → last.stop ≡ o → m < all
-    → is_instruction_next last ≡ false → Ends all m last (end_of o true)
+    → is_instruction_next last ≡ false → EndsTask all m last (end_of o true)
 ends_before all m last (Some why) e few other = e
 ends_before all m last None e few other = (few, e, other)
 
 -- only the end is left
 ends_here : (k : Settings) (all m : ℕ) (s : State) (left : Bool) → m ≤ all → AreInstructions m s
-    → Ends all m (after m s) (end_of (after m s).stop left)
+    → EndsTask all m (after m s) (end_of (after m s).stop left)
     → RanFrom k all m s (task_piece (after m s) (end_of (after m s).stop left) ∷ [])
 ends_here k all m s left few made ends = record {
   steps = m;

@@ -3,17 +3,17 @@ use Rattle.std.proofs.Common.{◌≡◌, ◌⊎◌, inl, inr, ℕ, zero, suc, �
 use Rattle.std.proofs.Common.{refl, sym, ◌∙◌, ap, subst, arith}
 use Rattle.std.proofs.lemmas.Bool.Decides.{nat_tests}
 use Rattle.debugger.proofs.Running.{step_cut, step_more}
-use Rattle.serving.proofs.Telling.{Told}
+use Rattle.serving.proofs.Delivering.{HasDelivered}
 use Rattle.debugger.specs.Answers.{step_piece, task_on, task_piece}
 use Rattle.debugger_commands.specs.Settings.{Settings}
 use Rattle.machine.specs.Foresight.{is_instruction_next}
 use Rattle.machine.specs.Tasks.{end_of}
-use Rattle.machine.specs.Whole.{Whole}
+use Rattle.machine.specs.MachineModel.{MachineModel}
 use Rattle.output.specs.Output.{Writing}
 use Rattle.reference.specs.State.{State}
 use Rattle.reference.specs.Step.{step}
 use Rattle.task_laws.specs.declared.task.TaskEnd.{TaskEnd}
-use Rattle.serving.specs.Pieces.{Piece, TellsAll, TellsPart}
+use Rattle.serving.specs.Pieces.{Piece, DeliversAll, DeliversPart}
 
 -- no step is left, or the next one isn't an Instruction step
 task_at_end : (k : Settings) (n : ℕ) (s : State) → (n ≡ 0) ⊎ (is_instruction_next s ≡ false)
@@ -30,25 +30,27 @@ task_goes k zero s some goes = absurd (let wrong : 0 < 0 = some in omega arith)
 task_goes k (suc n) s some goes = let e : suc n - 1 ≡ n = omega arith in rw (goes, e) refl
 
 -- one step more
-pub task_more : (k : Settings) (left : ℕ) (all : List Piece) (old mid new : Whole) (a b c : Writing) → 0 < left
-    → is_instruction_next mid.state ≡ true → Told all (task_on k left mid.state) old mid a b
-    → TellsAll (step_piece k mid.state ∷ []) mid new b c → Told all (task_on k (left - 1) new.state) old new a c
+pub task_more : (k : Settings) (left : ℕ) (all : List Piece) (old mid new : MachineModel) (a b c : Writing) → 0 < left
+    → is_instruction_next mid.state ≡ true → HasDelivered all (task_on k left mid.state) old mid a b
+    → DeliversAll (step_piece k mid.state ∷ []) mid new b c
+    → HasDelivered all (task_on k (left - 1) new.state) old new a c
 task_more k left all old mid new a b c some goes so_far then =
     step_more k (task_on k (left - 1)) all old mid new a b c
-    (subst (λ (ps : List Piece). Told all ps old mid a b) (task_goes k left mid.state some goes) so_far) then
+    (subst (λ (ps : List Piece). HasDelivered all ps old mid a b) (task_goes k left mid.state some goes) so_far) then
 
 -- a step that was cut
-pub task_cut : (k : Settings) (left : ℕ) (all : List Piece) (old mid new : Whole) (a b c : Writing) → 0 < left
-    → is_instruction_next mid.state ≡ true → Told all (task_on k left mid.state) old mid a b
-    → TellsPart (step_piece k mid.state ∷ []) mid new b c → TellsPart all old new a c
+pub task_cut : (k : Settings) (left : ℕ) (all : List Piece) (old mid new : MachineModel) (a b c : Writing) → 0 < left
+    → is_instruction_next mid.state ≡ true → HasDelivered all (task_on k left mid.state) old mid a b
+    → DeliversPart (step_piece k mid.state ∷ []) mid new b c → DeliversPart all old new a c
 task_cut k left all old mid new a b c some goes so_far then =
     step_cut k (task_on k (left - 1) (step mid.state).state) all old mid new a b c
-    (subst (λ (ps : List Piece). Told all ps old mid a b) (task_goes k left mid.state some goes) so_far) then
+    (subst (λ (ps : List Piece). HasDelivered all ps old mid a b) (task_goes k left mid.state some goes) so_far) then
 
 -- the end is what is left
-pub task_ends : (k : Settings) (left : ℕ) (end : TaskEnd) (all : List Piece) (old mid : Whole) (a b : Writing)
+pub task_ends : (k : Settings) (left : ℕ) (end : TaskEnd) (all : List Piece) (old mid : MachineModel) (a b : Writing)
     → (left ≡ 0) ⊎ (is_instruction_next mid.state ≡ false) → end ≡ end_of mid.state.stop (nat_lt 0 left)
-    → Told all (task_on k left mid.state) old mid a b → Told all (task_piece mid.state end ∷ []) old mid a b
+    → HasDelivered all (task_on k left mid.state) old mid a b
+    → HasDelivered all (task_piece mid.state end ∷ []) old mid a b
 task_ends k left end all old mid a b ends same so_far =
-    subst (λ (ps : List Piece). Told all ps old mid a b)
+    subst (λ (ps : List Piece). HasDelivered all ps old mid a b)
     (task_at_end k left mid.state ends ∙ ap (λ (e : TaskEnd). task_piece mid.state e ∷ []) (sym same)) so_far

@@ -23,11 +23,11 @@ use Rattle.machine.specs.Tasks.{end_of}
 use Rattle.machine.specs.Values.{values_of}
 use Rattle.platform.specs.declared.error.PlaceError.{PlaceError}
 use Rattle.platform.specs.declared.error.PlaceError.TheVariants.{NotAligned, NoSuchPlace, Stopped, Refused}
-use Rattle.platform.specs.declared.exception.TheConstants.{MOST_INTERRUPTS}
-use Rattle.platform.specs.declared.mpu.TheConstants.{MOST_REGIONS}
+use Rattle.platform.specs.declared.exception.TheConstants.{MAX_INTERRUPTS}
+use Rattle.platform.specs.declared.mpu.TheConstants.{MAX_REGIONS}
 use Rattle.platform.specs.declared.script.Signal.{Signal}
 use Rattle.platform.specs.declared.script.Signal.TheVariants as signal
-use Rattle.platform.specs.declared.stop.LeftOut.TheVariants.{ClockEnd}
+use Rattle.platform.specs.declared.stop.Unsupported.TheVariants.{ClockEnd}
 use Rattle.platform.specs.declared.stop.Stop.{Stop}
 use Rattle.platform.specs.declared.stop.Stop.TheVariants.{OutOfProfile}
 use Rattle.platform.specs.Priorities.{is_below_zero}
@@ -130,7 +130,7 @@ next_text s = next_line (next_kind_of s) s.stop
 abbrev pub part_text : State → Part → List ℕ
 part_text s part.Regs = registers_text (values_of s.registers s.bus.system.nvic.masks)
 part_text s (part.Memory a n) = memory_text s.bus a (n + 1)
-part_text s part.Regions = region_lines s.bus.system.mpu MOST_REGIONS
+part_text s part.Regions = region_lines s.bus.system.mpu MAX_REGIONS
 part_text s (part.Explain a privileged kind) =
     decision_text (decision_of s.bus.system.mpu a kind privileged (is_below_zero s.bus.system.nvic))
 part_text s part.State = state_text s
@@ -152,7 +152,7 @@ edge_signal edge.Fall k = signal.Fall k
 
 -- the state after it, or the refusal. No board has an interrupt from 240 on
 abbrev pub after_edge : State → Edge → ℕ → Result State PlaceError
-after_edge s how k = if nat_lt k MOST_INTERRUPTS then signalled s (edge_signal how k) else Err NoSuchPlace
+after_edge s how k = if nat_lt k MAX_INTERRUPTS then signalled s (edge_signal how k) else Err NoSuchPlace
 
 -- the number of a refusal, and its name
 abbrev pub refusal_text : PlaceError → List ℕ

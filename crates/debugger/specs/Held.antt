@@ -1,6 +1,6 @@
 -- What a debugger holds between two bytes: what a session keeps, with slots in place of what was saved in them.
 use Rattle.std.specs.Prelude.{ℕ, Bool, true, not, if◌then◌else◌, List, [], length, Option, Some}
-use Rattle.debugger.specs.Sessions.{Kept, debugging, is_line_feed, line_asked}
+use Rattle.debugger.specs.Sessions.{SessionData, debugging, is_line_feed, line_asked}
 use Rattle.debugger.specs.Slots.{Slot, saved_in, slots_after}
 use Rattle.debugger_commands.specs.Commands.{change_of, quits}
 use Rattle.debugger_commands.specs.Settings.{Settings, opened_settings, settings_after}
@@ -17,7 +17,7 @@ pub record Held : Type 0 where
   pub is_open : Bool
 
 -- what the session keeps of it
-abbrev pub kept_of : Held → Kept
+abbrev pub kept_of : Held → SessionData
 kept_of h = record { settings = h.settings; line = h.line; saved = saved_in h.slots; is_open = h.is_open }
 
 -- before the first byte of a session of a machine of a board, with these slots

@@ -3,7 +3,7 @@
 use Rattle.std.specs.Prelude.{◌≡◌, ℕ, zero, suc, ◌+◌, ◌-◌, ◌<◌, ◌≤◌, true, false, ◌||◌, if◌then◌else◌, is_some, List}
 use Rattle.std.specs.Prelude.{[], ◌∷◌, ◌++◌, length, Option, Some, None, Result, Ok}
 use Rattle.debugger.specs.Answers.{answer, end_piece, is_hit, run_pieces, task_pieces, task_text}
-use Rattle.debugger.specs.Sessions.{Kept, after_command}
+use Rattle.debugger.specs.Sessions.{SessionData, after_command}
 use Rattle.debugger_commands.specs.declared.changes.Change.TheVariants as change
 use Rattle.debugger_commands.specs.declared.commands.Command.{Command}
 use Rattle.debugger_commands.specs.declared.commands.Command.TheVariants as command
@@ -20,8 +20,8 @@ use Rattle.reference.specs.Step.{step}
 use Rattle.platform.specs.Events.{lines}
 use Rattle.task_laws.specs.declared.task.TaskEnd.{TaskEnd}
 use Rattle.task_laws.specs.Sight.{Same}
-use Rattle.task_laws.specs.Tasks.{AreInstructions, Ends, is_task}
-use Rattle.serving.specs.Conduct.{Talk}
+use Rattle.task_laws.specs.Tasks.{AreInstructions, EndsTask, is_task}
+use Rattle.serving.specs.Conduct.{SessionState}
 use Rattle.serving.specs.Pieces.{Piece, last_state, texts}
 
 -- the pieces are those of a run of at most n steps: `steps` steps were made, each of them an Instruction step; their
@@ -31,7 +31,7 @@ pub record SaysHowItRan (k : Settings) (n : ℕ) (s : State) (pieces : List Piec
   pub end : TaskEnd
   pub few : steps ≤ n
   pub instructions : AreInstructions steps s
-  pub ends : Ends n steps (after steps s) end
+  pub ends : EndsTask n steps (after steps s) end
   pub state : last_state s pieces ≡ after steps s
   pub text : texts pieces ≡ lines (written (without_conditions k) (events_of steps s)) ++ task_text end
 
@@ -103,10 +103,10 @@ abbrev pub back_to : ℕ → Result Command LineError
 back_to slot = Ok (command.Change (change.Back slot))
 
 -- a state that is saved stays the machine's
-abbrev pub SaveLaw : Talk Kept → ℕ → Type 0
+abbrev pub SaveLaw : SessionState SessionData → ℕ → Type 0
 SaveLaw t slot = (after_command t (save_in slot)).state ≡ t.state
 
-abbrev pub after_commands : Talk Kept → List (Result Command LineError) → Talk Kept
+abbrev pub after_commands : SessionState SessionData → List (Result Command LineError) → SessionState SessionData
 after_commands t [] = t
 after_commands t (asked ∷ more) = after_commands (after_command t asked) more
 
@@ -116,7 +116,7 @@ LeaveSlot slot [] = Unit {0}
 LeaveSlot slot (asked ∷ more) = ¬ (change_of asked ≡ Some (change.Save slot)) × LeaveSlot slot more
 
 -- `back k` goes back to the state that `save k` saved, whatever comes between that doesn't save another one there
-abbrev pub BackLaw : Talk Kept → ℕ → List (Result Command LineError) → Type 0
+abbrev pub BackLaw : SessionState SessionData → ℕ → List (Result Command LineError) → Type 0
 BackLaw t slot between =
     slot < length t.kept.saved → LeaveSlot slot between
     → (after_command (after_commands (after_command t (save_in slot)) between) (back_to slot)).state ≡ t.state

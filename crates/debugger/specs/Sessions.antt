@@ -8,14 +8,14 @@ use Rattle.debugger_commands.specs.Settings.{Settings, opened_settings, settings
 use Rattle.debugger_commands.specs.Words.{is_empty, with_byte}
 use Rattle.platform.specs.Boards.{Numbers}
 use Rattle.reference.specs.State.{State}
-use Rattle.serving.specs.Conduct.{Conduct, Talk, course_of}
+use Rattle.serving.specs.Conduct.{Conduct, SessionState, course_of}
 use Rattle.serving.specs.Pieces.{Piece, last_state}
 use Rattle.serving.specs.Sessions.{Course}
 
 -- ---- a session between two bytes
 
 -- what is kept beside the machine
-pub record Kept : Type 0 where
+pub record SessionData : Type 0 where
   pub settings : Settings
   -- the line so far, None where it's too long
   pub line : Option (List ℕ)
@@ -25,7 +25,7 @@ pub record Kept : Type 0 where
   pub is_open : Bool
 
 -- before the first byte of a session of a machine of a board, with these saved states
-abbrev pub opened : Numbers → List (Option State) → Kept
+abbrev pub opened : Numbers → List (Option State) → SessionData
 opened board saved = record {
   settings = opened_settings board (length saved);
   line = Some [];
@@ -34,45 +34,45 @@ opened board saved = record {
 }
 
 -- the command of the line
-abbrev pub line_asked : Kept → Result Command LineError
+abbrev pub line_asked : SessionData → Result Command LineError
 line_asked k = command_in k.settings.slots k.line
 
 -- the answer to the line
-abbrev pub line_answered : Kept → State → List Piece
+abbrev pub line_answered : SessionData → State → List Piece
 line_answered k s = answer s k.settings k.saved (line_asked k)
 
 -- after the answer to a command
-abbrev pub kept_after : Kept → State → Result Command LineError → Kept
+abbrev pub kept_after : SessionData → State → Result Command LineError → SessionData
 kept_after k s asked =
     record k { settings = settings_after k.settings asked; saved = saved_after s k.saved (change_of asked) }
 
-abbrev pub after_command : Talk Kept → Result Command LineError → Talk Kept
+abbrev pub after_command : SessionState SessionData → Result Command LineError → SessionState SessionData
 after_command t asked = record {
   kept = kept_after t.kept t.state asked;
   state = last_state t.state (answer t.state t.kept.settings t.kept.saved asked);
 }
 
 -- after the answer to the line
-abbrev pub after_line : Kept → State → Kept
+abbrev pub after_line : SessionData → State → SessionData
 after_line k s = record (kept_after k s (line_asked k)) { line = Some []; is_open = not (quits (line_asked k)) }
 
 abbrev pub is_line_feed : ℕ → Bool
 is_line_feed byte = byte == 10
 
 -- a line feed ends the line, which is answered
-abbrev pub answered : Kept → State → ℕ → List Piece
+abbrev pub answered : SessionData → State → ℕ → List Piece
 answered k s byte = if is_line_feed byte then line_answered k s else []
 
-abbrev pub next : Kept → State → ℕ → Kept
+abbrev pub next : SessionData → State → ℕ → SessionData
 next k s byte = if is_line_feed byte then after_line k s else record k { line = with_byte k.line byte }
 
 -- at the end of the input a last line without a line feed counts, if it has a byte
-abbrev pub answered_at_end : Kept → State → List Piece
+abbrev pub answered_at_end : SessionData → State → List Piece
 answered_at_end k s = if is_empty k.line then [] else line_answered k s
 
 -- ---- all bytes; none is read after `quit`
 
-abbrev pub debugging : Conduct Kept
+abbrev pub debugging : Conduct SessionData
 debugging = record {
   is_open = λ k. k.is_open;
   answered = answered;

@@ -4,7 +4,7 @@ use Rattle.debugger_commands.specs.Texts.{general_lines, region_lines, register_
 use Rattle.machine.specs.declared.readers.RegValues.{RegValues}
 use Rattle.machine.specs.Values.{values_of}
 use Rattle.platform.specs.declared.exception.TheConstants.{EXCEPTIONS}
-use Rattle.platform.specs.declared.mpu.TheConstants.{MOST_REGIONS}
+use Rattle.platform.specs.declared.mpu.TheConstants.{MAX_REGIONS}
 use Rattle.platform.specs.Priorities.{is_in}
 use Rattle.reference.specs.State.{State}
 use Rattle.platform.specs.Status.{Status}
@@ -57,5 +57,5 @@ set_line name set = (name ++ numbers_below set EXCEPTIONS) ++ line_feed
 abbrev pub state_text : State → List ℕ
 state_text s =
     registers_text (values_of s.registers s.bus.system.nvic.masks) ++ (clock_line s.bus.system.time.ticks
-    ++ (status_lines s.bus.system.status ++ (region_lines s.bus.system.mpu MOST_REGIONS
+    ++ (status_lines s.bus.system.status ++ (region_lines s.bus.system.mpu MAX_REGIONS
     ++ (set_line (codes "PENDING") s.bus.system.nvic.pending ++ set_line (codes "ACTIVE") s.bus.system.nvic.active))))

@@ -9,12 +9,13 @@ ghost use Rattle.platform.specs.Text.{line_feed, stop_text};
 use crate::slots::Slots;
 use debugger_commands::{Change, Edge, Reply, ok_text};
 use machine::{
-    Decider, DueTicks, InterruptNumber, KeptCode, Levels, Machine, Place, PlaceError, Signal, Stop,
+    Decider, Exceptions, InterruptNumber, KeptCode, Machine, Place, PlaceError, Signal, Stop,
+    SysTickState,
 };
-use platform::exception::MOST_INTERRUPTS;
+use platform::exception::MAX_INTERRUPTS;
 
 /// Changes a machine, or saves its state in a slot. Returns the text of the answer.
-pub fn change<D: Decider, C: KeptCode, L: Levels, U: DueTicks>(
+pub fn change<D: Decider, C: KeptCode, L: Exceptions, U: SysTickState>(
     machine: &mut Machine<D, C, L, U>,
     slots: &mut Slots<L, U>,
     what: Change,
@@ -38,7 +39,7 @@ pub fn change<D: Decider, C: KeptCode, L: Levels, U: DueTicks>(
 }
 
 /// Puts a value into a register or a word, None into a register that no machine has.
-fn place<D: Decider, C: KeptCode, L: Levels, U: DueTicks>(
+fn place<D: Decider, C: KeptCode, L: Exceptions, U: SysTickState>(
     machine: &mut Machine<D, C, L, U>,
     value: Option<Place>,
 ) -> Result<(), PlaceError>
@@ -51,14 +52,14 @@ fn place<D: Decider, C: KeptCode, L: Levels, U: DueTicks>(
 }
 
 /// Does what an event of a script does on the interrupt of a number.
-fn signal<D: Decider, C: KeptCode, L: Levels, U: DueTicks>(
+fn signal<D: Decider, C: KeptCode, L: Exceptions, U: SysTickState>(
     machine: &mut Machine<D, C, L, U>,
     how: Edge,
     number: u32,
 ) -> Result<(), PlaceError>
     ensures { Places (after_edge machine.old.state how number) machine.old machine.new result }
 {
-    if number >= u32::from(MOST_INTERRUPTS) {
+    if number >= u32::from(MAX_INTERRUPTS) {
         return Err(PlaceError::NoSuchPlace);
     }
     let interrupt = InterruptNumber::new(number as u8);

@@ -3,13 +3,13 @@
 ghost use Rattle.std.specs.Prelude.{ℕ, List, Option, Result};
 ghost use Rattle.debugger.specs.Laws.{BackLaw, PartsLaw, PlainRunLaw, SaveLaw, ShowLaw, TaskAnswersLaw};
 ghost use Rattle.debugger.specs.Laws.{TaskLaw};
-ghost use Rattle.debugger.specs.Sessions.{Kept};
+ghost use Rattle.debugger.specs.Sessions.{SessionData};
 ghost use Rattle.debugger_commands.specs.declared.commands.Command.{Command};
 ghost use Rattle.debugger_commands.specs.declared.commands.LineError.{LineError};
 ghost use Rattle.debugger_commands.specs.declared.commands.Part.{Part};
 ghost use Rattle.debugger_commands.specs.Settings.{Settings};
 ghost use Rattle.reference.specs.State.{State};
-ghost use Rattle.serving.specs.Conduct.{Talk};
+ghost use Rattle.serving.specs.Conduct.{SessionState};
 
 /// Where a task runs, or the machine has stopped, the answer to `task n` has the lines of Instruction
 /// steps, at most n, and then why they ended, as `Machine::run_task` does with the same limit.
@@ -43,10 +43,11 @@ pub fn showing_changes_nothing()
 
 /// `save k` leaves the state of the machine.
 pub fn saving_leaves_the_state()
-    ensures { (t : Talk Kept) (slot : ℕ) → SaveLaw t slot }
+    ensures { (t : SessionState SessionData) (slot : ℕ) → SaveLaw t slot }
 {}
 
 /// After `save k`, and any commands that don't save in that slot, `back k` goes back to the state that was saved.
 pub fn back_is_to_what_was_saved()
-    ensures { (t : Talk Kept) (slot : ℕ) (between : List (Result Command LineError)) → BackLaw t slot between }
+    ensures { (t : SessionState SessionData) (slot : ℕ) (between : List (Result Command LineError))
+        → BackLaw t slot between }
 {}

@@ -6,11 +6,11 @@ ghost use Rattle.debugger_commands.specs.Conditions.{first_hit, is_plain, writte
 ghost use Rattle.output.specs.Output.{Put};
 ghost use Rattle.platform.specs.Events.{lines};
 ghost use Rattle.reference.specs.Step.{step};
-ghost use Rattle.serving.specs.Pieces.{Tells};
+ghost use Rattle.serving.specs.Pieces.{Delivers};
 
 use debugger_commands::{Hit, Settings};
 use machine::{
-    Decider, DueTicks, Event, Events, IoError, KeptCode, Levels, LineRoom, Machine, Out,
+    Decider, Event, Events, Exceptions, IoError, KeptCode, LineRoom, Machine, Out, SysTickState,
     is_instruction,
 };
 
@@ -32,13 +32,13 @@ impl StepRoom {
 }
 
 /// Makes a step and writes its lines. Returns what its events hit, where one ends the run.
-pub fn write_step<D: Decider, C: KeptCode, L: Levels, U: DueTicks, W: Out>(
+pub fn write_step<D: Decider, C: KeptCode, L: Exceptions, U: SysTickState, W: Out>(
     machine: &mut Machine<D, C, L, U>,
     settings: &Settings,
     room: &mut StepRoom,
     out: &mut W,
 ) -> Result<Option<Hit>, IoError>
-    ensures tells { Tells (step_piece settings.now machine.old.state ∷ []) machine.old machine.new
+    ensures delivers { Delivers (step_piece settings.now machine.old.state ∷ []) machine.old machine.new
         (W.writing out.old) (W.writing out.new) result }
     ensures hit { IfOk result (λ hit. hit ≡ first_hit settings.now (step machine.old.state).events) }
 {
@@ -53,14 +53,14 @@ pub fn write_step<D: Decider, C: KeptCode, L: Levels, U: DueTicks, W: Out>(
 }
 
 /// Makes a step and writes the lines of all its events, where the settings have each of them.
-fn write_whole_step<D: Decider, C: KeptCode, L: Levels, U: DueTicks, W: Out>(
+fn write_whole_step<D: Decider, C: KeptCode, L: Exceptions, U: SysTickState, W: Out>(
     machine: &mut Machine<D, C, L, U>,
     settings: &Settings,
     room: &mut LineRoom,
     out: &mut W,
 ) -> Result<(), IoError>
     requires { is_plain settings.now ≡ true }
-    ensures { Tells (step_piece settings.now machine.old.state ∷ []) machine.old machine.new
+    ensures { Delivers (step_piece settings.now machine.old.state ∷ []) machine.old machine.new
         (W.writing out.old) (W.writing out.new) result }
 {
     let _ = settings;
@@ -68,13 +68,13 @@ fn write_whole_step<D: Decider, C: KeptCode, L: Levels, U: DueTicks, W: Out>(
 }
 
 /// Makes a step and writes the lines that the settings have of its events. Returns what its events hit.
-fn write_chosen_step<D: Decider, C: KeptCode, L: Levels, U: DueTicks, W: Out>(
+fn write_chosen_step<D: Decider, C: KeptCode, L: Exceptions, U: SysTickState, W: Out>(
     machine: &mut Machine<D, C, L, U>,
     settings: &Settings,
     room: &mut StepRoom,
     out: &mut W,
 ) -> Result<Option<Hit>, IoError>
-    ensures tells { Tells (step_piece settings.now machine.old.state ∷ []) machine.old machine.new
+    ensures delivers { Delivers (step_piece settings.now machine.old.state ∷ []) machine.old machine.new
         (W.writing out.old) (W.writing out.new) result }
     ensures hit { IfOk result (λ hit. hit ≡ first_hit settings.now (step machine.old.state).events) }
 {
@@ -121,7 +121,7 @@ fn put_line<W: Out>(
 }
 
 /// Returns whether the next step is an instruction at a breakpoint.
-fn is_hit<D: Decider, C: KeptCode, L: Levels, U: DueTicks>(
+fn is_hit<D: Decider, C: KeptCode, L: Exceptions, U: SysTickState>(
     machine: &Machine<D, C, L, U>,
     settings: &Settings,
 ) -> bool
@@ -131,7 +131,7 @@ fn is_hit<D: Decider, C: KeptCode, L: Levels, U: DueTicks>(
 }
 
 /// Returns what is hit before the next step: by the events of the last one, or a breakpoint.
-fn hit_before<D: Decider, C: KeptCode, L: Levels, U: DueTicks>(
+fn hit_before<D: Decider, C: KeptCode, L: Exceptions, U: SysTickState>(
     machine: &Machine<D, C, L, U>,
     settings: &Settings,
     hit: Option<Hit>,
@@ -146,7 +146,7 @@ fn hit_before<D: Decider, C: KeptCode, L: Levels, U: DueTicks>(
 }
 
 /// Returns whether a run ends after a step: the machine has stopped, or something is hit.
-fn ends_at<D: Decider, C: KeptCode, L: Levels, U: DueTicks>(
+fn ends_at<D: Decider, C: KeptCode, L: Exceptions, U: SysTickState>(
     machine: &Machine<D, C, L, U>,
     hit: Option<Hit>,
 ) -> bool
@@ -157,13 +157,13 @@ fn ends_at<D: Decider, C: KeptCode, L: Levels, U: DueTicks>(
 
 /// Writes what was hit, in a session with scripts, and where the machine is: its stop, or the address of the next
 /// instruction.
-fn put_end<D: Decider, C: KeptCode, L: Levels, U: DueTicks, W: Out>(
+fn put_end<D: Decider, C: KeptCode, L: Exceptions, U: SysTickState, W: Out>(
     machine: &Machine<D, C, L, U>,
     settings: &Settings,
     hit: Option<Hit>,
     out: &mut W,
 ) -> Result<(), IoError>
-    ensures { Tells (end_piece settings.now hit machine.now.state ∷ []) machine.now machine.now
+    ensures { Delivers (end_piece settings.now hit machine.now.state ∷ []) machine.now machine.now
         (W.writing out.old) (W.writing out.new) result }
 {
     let page = settings.run_end_text(hit, machine.stop(), machine.regs().pc);
@@ -172,7 +172,7 @@ fn put_end<D: Decider, C: KeptCode, L: Levels, U: DueTicks, W: Out>(
 
 /// Makes at most `steps` steps after the first one of a run, whose events hit `first`, and writes their lines and
 /// how the run ended.
-fn run_on<D: Decider, C: KeptCode, L: Levels, U: DueTicks, W: Out>(
+fn run_on<D: Decider, C: KeptCode, L: Exceptions, U: SysTickState, W: Out>(
     machine: &mut Machine<D, C, L, U>,
     settings: &Settings,
     steps: u32,
@@ -180,7 +180,7 @@ fn run_on<D: Decider, C: KeptCode, L: Levels, U: DueTicks, W: Out>(
     room: &mut StepRoom,
     out: &mut W,
 ) -> Result<(), IoError>
-    ensures { Tells (run_on settings.now steps first machine.old.state) machine.old machine.new
+    ensures { Delivers (run_on settings.now steps first machine.old.state) machine.old machine.new
         (W.writing out.old) (W.writing out.new) result }
 {
     let mut left = steps;
@@ -201,13 +201,13 @@ fn run_on<D: Decider, C: KeptCode, L: Levels, U: DueTicks, W: Out>(
 
 /// Makes at most `steps` steps, and writes their lines and how the run ended. A machine that has stopped makes
 /// none.
-pub fn run<D: Decider, C: KeptCode, L: Levels, U: DueTicks, W: Out>(
+pub fn run<D: Decider, C: KeptCode, L: Exceptions, U: SysTickState, W: Out>(
     machine: &mut Machine<D, C, L, U>,
     settings: &Settings,
     steps: u32,
     out: &mut W,
 ) -> Result<(), IoError>
-    ensures { Tells (run_pieces settings.now steps machine.old.state) machine.old machine.new
+    ensures { Delivers (run_pieces settings.now steps machine.old.state) machine.old machine.new
         (W.writing out.old) (W.writing out.new) result }
 {
     if machine.stop().is_some() {

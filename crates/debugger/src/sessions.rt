@@ -9,7 +9,7 @@ ghost use Rattle.debugger_commands.specs.Commands.{change_of, quits, steps_of, t
 ghost use Rattle.debugger_commands.specs.Settings.{settings_after};
 ghost use Rattle.output.specs.Output.{Put};
 ghost use Rattle.platform.specs.Boards.{numbers_of};
-ghost use Rattle.serving.specs.Pieces.{Tells};
+ghost use Rattle.serving.specs.Pieces.{Delivers};
 ghost use Rattle.serving.specs.Sessions.{NothingWaits, Sessions};
 
 use crate::changes::change;
@@ -18,44 +18,44 @@ use crate::slots::Slots;
 use crate::tasks::run_task;
 use crate::texts::{closing_text, put_part};
 use debugger_commands::{
-    Change, Command, LineError, Listener, Settings, change_of, part_of, quits, read_line, steps_of,
-    task_steps_of,
+    Change, Command, LineBuffer, LineError, Settings, change_of, part_of, quits, read_line,
+    steps_of, task_steps_of,
 };
-use machine::{Decider, DueTicks, In, IoError, KeptCode, Layout, Levels, Machine, Out};
+use machine::{Decider, Exceptions, In, IoError, KeptCode, Layout, Machine, Out, SysTickState};
 use serving::{Protocol, SessionError, serve};
 use std::marker::Model;
 
 /// What a session keeps between two bytes, beside the machine.
 #[derive(Drop)]
-struct Debugger<L: Levels, U: DueTicks> {
+struct Debugger<L: Exceptions, U: SysTickState> {
     settings: Settings,
-    listener: Listener,
+    line_buffer: LineBuffer,
     slots: Slots<L, U>,
     // Whether no `quit` was read.
     is_open: bool,
 }
 
-impl<L: Levels, U: DueTicks> Model for Debugger<L, U> {
+impl<L: Exceptions, U: SysTickState> Model for Debugger<L, U> {
     ghost use Rattle.debugger.specs.Held.{Held};
 
     ghost Value = { Held };
 
     ghost view = { λ d. record {
       settings = d.settings;
-      line = d.listener;
+      line = d.line_buffer;
       slots = d.slots;
       is_open = d.is_open;
     } };
 }
 
-impl<L: Levels, U: DueTicks> Debugger<L, U> {
+impl<L: Exceptions, U: SysTickState> Debugger<L, U> {
     /// Returns what is kept before the first byte of a session on a board.
     fn new(layout: Layout, slots: Slots<L, U>) -> Self
         ensures { result ≡ held_first (numbers_of layout) slots }
     {
         Debugger {
             settings: Settings::new(layout, slots.count()),
-            listener: Listener::new(),
+            line_buffer: LineBuffer::new(),
             slots,
             is_open: true,
         }
@@ -69,7 +69,7 @@ impl<L: Levels, U: DueTicks> Debugger<L, U> {
         out: &mut W,
     ) -> Result<(), IoError>
         requires { HaveRoom self.old.slots machine.old.state.bus }
-        ensures tells { Tells (change_piece machine.old.state (saved_in self.old.slots) what ∷ []) machine.old
+        ensures delivers { Delivers (change_piece machine.old.state (saved_in self.old.slots) what ∷ []) machine.old
             machine.new (W.writing out.old) (W.writing out.new) result }
         ensures kept { self.new ≡ record self.old {
           slots = slots_by machine.old.state self.old.slots what;
@@ -105,7 +105,7 @@ impl<L: Levels, U: DueTicks> Debugger<L, U> {
         out: &mut W,
     ) -> Result<(), IoError>
         requires { HaveRoom self.old.slots machine.old.state.bus }
-        ensures tells { Tells (answer_by machine.old.state self.old.settings (saved_in self.old.slots) asked
+        ensures delivers { Delivers (answer_by machine.old.state self.old.settings (saved_in self.old.slots) asked
             (steps_of asked) (task_steps_of asked)) machine.old machine.new (W.writing out.old) (W.writing out.new)
             result }
         ensures kept { self.new ≡ record self.old {
@@ -142,7 +142,8 @@ impl<L: Levels, U: DueTicks> Debugger<L, U> {
         out: &mut W,
     ) -> Result<(), IoError>
         requires { HaveRoom self.old.slots machine.old.state.bus }
-        ensures tells { Tells (answer machine.old.state self.old.settings (saved_in self.old.slots) asked) machine.old
+        ensures delivers { Delivers (answer machine.old.state self.old.settings (saved_in self.old.slots) asked)
+            machine.old
             machine.new (W.writing out.old) (W.writing out.new) result }
         ensures kept { self.new ≡ record self.old {
           settings = settings_after self.old.settings asked;
@@ -166,13 +167,13 @@ impl<L: Levels, U: DueTicks> Debugger<L, U> {
         out: &mut W,
     ) -> Result<(), IoError>
         requires { HaveRoom self.old.slots machine.old.state.bus }
-        ensures tells { Tells (line_answered (kept_of self.old) machine.old.state) machine.old machine.new
+        ensures delivers { Delivers (line_answered (kept_of self.old) machine.old.state) machine.old machine.new
             (W.writing out.old) (W.writing out.new) result }
         ensures kept { OnOk result (self.new ≡ held_after_line self.old machine.old.state) }
         ensures room { OnOk result (HaveRoom self.new.slots machine.new.state.bus) }
     {
-        let asked = read_line(self.settings.slots(), self.listener.line());
-        self.listener.clear();
+        let asked = read_line(self.settings.slots(), self.line_buffer.line());
+        self.line_buffer.clear();
         self.is_open = !quits(asked);
         match self.answer(machine, asked, out) {
             Ok(()) => Ok(()),
@@ -181,7 +182,7 @@ impl<L: Levels, U: DueTicks> Debugger<L, U> {
     }
 }
 
-impl<L: Levels, U: DueTicks> Protocol<L, U> for Debugger<L, U> {
+impl<L: Exceptions, U: SysTickState> Protocol<L, U> for Debugger<L, U> {
     ghost conduct = { holding };
 
     ghost ready = { λ d s. HaveRoom d.slots s.bus };
@@ -190,7 +191,7 @@ impl<L: Levels, U: DueTicks> Protocol<L, U> for Debugger<L, U> {
         self.is_open
     }
 
-    fn hear<D: Decider, C: KeptCode, W: Out>(
+    fn answer_byte<D: Decider, C: KeptCode, W: Out>(
         &mut self,
         machine: &mut Machine<D, C, L, U>,
         byte: u8,
@@ -199,7 +200,7 @@ impl<L: Levels, U: DueTicks> Protocol<L, U> for Debugger<L, U> {
         if byte == b'\n' {
             return self.answer_line(machine, out);
         }
-        self.listener.push(byte);
+        self.line_buffer.push(byte);
         Ok(())
     }
 
@@ -209,7 +210,7 @@ impl<L: Levels, U: DueTicks> Protocol<L, U> for Debugger<L, U> {
         machine: &mut Machine<D, C, L, U>,
         out: &mut W,
     ) -> Result<(), IoError> {
-        if self.listener.is_empty() {
+        if self.line_buffer.is_empty() {
             return Ok(());
         }
         self.answer_line(machine, out)
@@ -217,11 +218,11 @@ impl<L: Levels, U: DueTicks> Protocol<L, U> for Debugger<L, U> {
 }
 
 /// Writes the line after an answer.
-fn close<D: Decider, C: KeptCode, L: Levels, U: DueTicks, W: Out>(
+fn close<D: Decider, C: KeptCode, L: Exceptions, U: SysTickState, W: Out>(
     machine: &Machine<D, C, L, U>,
     out: &mut W,
 ) -> Result<(), IoError>
-    ensures { Tells (closing_piece machine.now.state ∷ []) machine.now machine.now
+    ensures { Delivers (closing_piece machine.now.state ∷ []) machine.now machine.now
         (W.writing out.old) (W.writing out.new) result }
 {
     let page = closing_text(machine);
@@ -232,7 +233,7 @@ fn close<D: Decider, C: KeptCode, L: Levels, U: DueTicks, W: Out>(
 /// numbers of the machine's board, which `script 1` answers, and `slots` has room for states of the machine. What waits
 /// to be sent is sent before a call of the reader that may wait, and at the end. Where the reader or the writer fails,
 /// the machine is in its state after the steps and the changes that were made.
-pub fn session<D: Decider, C: KeptCode, L: Levels, U: DueTicks, I: In, W: Out>(
+pub fn session<D: Decider, C: KeptCode, L: Exceptions, U: SysTickState, I: In, W: Out>(
     machine: &mut Machine<D, C, L, U>,
     layout: Layout,
     slots: Slots<L, U>,
@@ -240,7 +241,7 @@ pub fn session<D: Decider, C: KeptCode, L: Levels, U: DueTicks, I: In, W: Out>(
     out: &mut W,
 ) -> Result<(), SessionError>
     requires { HaveRoom slots machine.old.state.bus }
-    ensures talked { Sessions (session_of (numbers_of layout) (saved_in slots) machine.old.state) machine.old
+    ensures held { Sessions (session_of (numbers_of layout) (saved_in slots) machine.old.state) machine.old
         machine.new (I.reading reader.old) (I.reading reader.new) (W.writing out.old) (W.writing out.new) result }
     ensures sent { NothingWaits (W.writing out.new) result }
 {

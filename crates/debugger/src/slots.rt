@@ -8,18 +8,18 @@ ghost use Rattle.platform.specs.Text.{line_feed};
 ghost use Rattle.step_laws.specs.SizeLaw.{AreOfOneBoard};
 
 use debugger_commands::{Reply, ok_text};
-use machine::{Decider, DueTicks, Kept, KeptCode, Levels, Machine};
+use machine::{Decider, Exceptions, Kept, KeptCode, Machine, SysTickState};
 use std::alloc::{AllocError, Global};
 use std::marker::Model;
 
 /// Room for a state, and whether one was saved there.
 #[derive(Drop)]
-struct Slot<L: Levels, U: DueTicks> {
+struct Slot<L: Exceptions, U: SysTickState> {
     kept: Kept<L, U>,
     is_saved: bool,
 }
 
-impl<L: Levels, U: DueTicks> Model for Slot<L, U> {
+impl<L: Exceptions, U: SysTickState> Model for Slot<L, U> {
     ghost use Rattle.debugger.specs.Slots.{Slot as TheSlot};
 
     ghost Value = { TheSlot };
@@ -27,7 +27,7 @@ impl<L: Levels, U: DueTicks> Model for Slot<L, U> {
     ghost view = { λ s. record { state = s.kept; is_saved = s.is_saved } };
 }
 
-impl<L: Levels, U: DueTicks> Slot<L, U> {
+impl<L: Exceptions, U: SysTickState> Slot<L, U> {
     /// Saves the state of a machine.
     fn save<D: Decider, C: KeptCode>(&mut self, machine: &Machine<D, C, L, U>)
         requires { AreOfOneBoard self.old.state.bus machine.now.state.bus }
@@ -40,11 +40,11 @@ impl<L: Levels, U: DueTicks> Slot<L, U> {
 
 /// Slots for states of a machine, each with room for one.
 #[derive(Drop)]
-pub struct Slots<L: Levels, U: DueTicks> {
+pub struct Slots<L: Exceptions, U: SysTickState> {
     slots: Vec<Slot<L, U>>,
 }
 
-impl<L: Levels, U: DueTicks> Model for Slots<L, U> {
+impl<L: Exceptions, U: SysTickState> Model for Slots<L, U> {
     ghost use Rattle.std.specs.Prelude.{List, length, ◌<◌};
     ghost use Rattle.debugger.specs.Slots.{Slot as TheSlot};
 
@@ -55,7 +55,7 @@ impl<L: Levels, U: DueTicks> Model for Slots<L, U> {
     ghost invariant = { λ s. length s.slots.items < 256 };
 }
 
-impl<L: Levels, U: DueTicks> Slots<L, U> {
+impl<L: Exceptions, U: SysTickState> Slots<L, U> {
     /// Makes `count` slots in which nothing was saved, with room for the states of a machine, or fails where memory
     /// can't be allocated.
     pub fn new<D: Decider, C: KeptCode>(

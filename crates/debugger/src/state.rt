@@ -7,7 +7,7 @@ ghost use Rattle.platform.specs.declared.exception.TheConstants.{EXCEPTIONS};
 
 use crate::texts::{regions_text, registers_text};
 use debugger_commands::{Reply, put_register};
-use machine::{Decider, DueTicks, IoError, KeptCode, Levels, Machine, Out, StatusRegister};
+use machine::{Decider, Exceptions, IoError, KeptCode, Machine, Out, StatusRegister, SysTickState};
 use platform::exception::EXCEPTIONS;
 use trace::page::Page;
 
@@ -28,7 +28,7 @@ fn put_clock(page: &mut StatePage, ticks: u64)
 
 /// Returns the lines of the registers of faults, of VTOR and of CCR.
 #[tactic(auto, unfolding(crate::specs::StateText::status_lines, platform::specs::Status::read_status))]
-fn status_text<D: Decider, C: KeptCode, L: Levels, U: DueTicks>(
+fn status_text<D: Decider, C: KeptCode, L: Exceptions, U: SysTickState>(
     machine: &Machine<D, C, L, U>,
 ) -> Reply
     ensures { result ≡ status_lines machine.now.state.bus.system.status }
@@ -77,7 +77,7 @@ fn put_number_if(page: &mut StatePage, number: u16, there: bool)
 
 /// Appends the line of the pending exceptions.
 #[tactic(auto, unfolding(crate::specs::StateText::numbers_below))]
-fn put_pending<D: Decider, C: KeptCode, L: Levels, U: DueTicks>(
+fn put_pending<D: Decider, C: KeptCode, L: Exceptions, U: SysTickState>(
     page: &mut StatePage,
     machine: &Machine<D, C, L, U>,
 )
@@ -94,7 +94,7 @@ fn put_pending<D: Decider, C: KeptCode, L: Levels, U: DueTicks>(
 
 /// Appends the line of the active exceptions.
 #[tactic(auto, unfolding(crate::specs::StateText::numbers_below))]
-fn put_active<D: Decider, C: KeptCode, L: Levels, U: DueTicks>(
+fn put_active<D: Decider, C: KeptCode, L: Exceptions, U: SysTickState>(
     page: &mut StatePage,
     machine: &Machine<D, C, L, U>,
 )
@@ -110,7 +110,7 @@ fn put_active<D: Decider, C: KeptCode, L: Levels, U: DueTicks>(
 
 /// Returns the state of a machine, a line for each value.
 #[tactic(auto, using(crate::proofs::Joining::in_six))]
-pub fn state_page<D: Decider, C: KeptCode, L: Levels, U: DueTicks>(
+pub fn state_page<D: Decider, C: KeptCode, L: Exceptions, U: SysTickState>(
     machine: &Machine<D, C, L, U>,
 ) -> StatePage
     ensures { result ≡ state_text machine.now.state }
@@ -126,7 +126,7 @@ pub fn state_page<D: Decider, C: KeptCode, L: Levels, U: DueTicks>(
 }
 
 /// Writes the state of a machine, a line for each value.
-pub fn write_state<D: Decider, C: KeptCode, L: Levels, U: DueTicks, W: Out>(
+pub fn write_state<D: Decider, C: KeptCode, L: Exceptions, U: SysTickState, W: Out>(
     machine: &Machine<D, C, L, U>,
     out: &mut W,
 ) -> Result<(), IoError>

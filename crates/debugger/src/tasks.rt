@@ -2,23 +2,23 @@
 
 ghost use Rattle.std.specs.Prelude.{◌≡◌, [], ◌∷◌};
 ghost use Rattle.debugger.specs.Answers.{task_on, task_piece, task_pieces};
-ghost use Rattle.serving.specs.Pieces.{Tells};
+ghost use Rattle.serving.specs.Pieces.{Delivers};
 
 use crate::runs::{StepRoom, write_step};
 use crate::texts::task_text;
 use debugger_commands::Settings;
 use machine::{
-    Decider, DueTicks, IoError, KeptCode, Levels, Machine, Out, TaskEnd, end_of_task,
+    Decider, Exceptions, IoError, KeptCode, Machine, Out, SysTickState, TaskEnd, end_of_task,
     is_instruction,
 };
 
 /// Writes why a run of a task ended.
-fn put_task_end<D: Decider, C: KeptCode, L: Levels, U: DueTicks, W: Out>(
+fn put_task_end<D: Decider, C: KeptCode, L: Exceptions, U: SysTickState, W: Out>(
     machine: &Machine<D, C, L, U>,
     end: TaskEnd,
     out: &mut W,
 ) -> Result<(), IoError>
-    ensures { Tells (task_piece machine.now.state end ∷ []) machine.now machine.now
+    ensures { Delivers (task_piece machine.now.state end ∷ []) machine.now machine.now
         (W.writing out.old) (W.writing out.new) result }
 {
     let page = task_text(end);
@@ -30,13 +30,13 @@ fn put_task_end<D: Decider, C: KeptCode, L: Levels, U: DueTicks, W: Out>(
 
 /// Makes at most `steps` steps, as long as they are Instruction steps, and writes their lines and why
 /// the run ended.
-fn task_on<D: Decider, C: KeptCode, L: Levels, U: DueTicks, W: Out>(
+fn task_on<D: Decider, C: KeptCode, L: Exceptions, U: SysTickState, W: Out>(
     machine: &mut Machine<D, C, L, U>,
     settings: &Settings,
     steps: u32,
     out: &mut W,
 ) -> Result<(), IoError>
-    ensures { Tells (task_on settings.now steps machine.old.state) machine.old machine.new
+    ensures { Delivers (task_on settings.now steps machine.old.state) machine.old machine.new
         (W.writing out.old) (W.writing out.new) result }
 {
     let mut room = StepRoom::new();
@@ -57,13 +57,13 @@ fn task_on<D: Decider, C: KeptCode, L: Levels, U: DueTicks, W: Out>(
 
 /// Makes at most `steps` steps of a task, and writes their lines and why the run ended. A machine that
 /// has stopped, or on which no task runs, makes none. Breakpoints and conditions don't end it.
-pub fn run_task<D: Decider, C: KeptCode, L: Levels, U: DueTicks, W: Out>(
+pub fn run_task<D: Decider, C: KeptCode, L: Exceptions, U: SysTickState, W: Out>(
     machine: &mut Machine<D, C, L, U>,
     settings: &Settings,
     steps: u32,
     out: &mut W,
 ) -> Result<(), IoError>
-    ensures { Tells (task_pieces settings.now steps machine.old.state) machine.old machine.new
+    ensures { Delivers (task_pieces settings.now steps machine.old.state) machine.old machine.new
         (W.writing out.old) (W.writing out.new) result }
 {
     if machine.stop().is_none() && !machine.is_task() {

@@ -5,7 +5,7 @@ ghost use Rattle.debugger.specs.Answers.{closing_text, next_line, next_text, par
 ghost use Rattle.debugger.specs.StateText.{core_lines, mask_lines, registers_text};
 ghost use Rattle.debugger_commands.specs.Texts.{bytes_text, memory_text, region_lines};
 ghost use Rattle.output.specs.Output.{Put};
-ghost use Rattle.platform.specs.declared.mpu.TheConstants.{MOST_REGIONS};
+ghost use Rattle.platform.specs.declared.mpu.TheConstants.{MAX_REGIONS};
 
 use crate::state::write_state;
 use debugger_commands::{
@@ -13,13 +13,14 @@ use debugger_commands::{
     put_register,
 };
 use machine::{
-    Decider, DueTicks, IoError, KeptCode, Levels, Machine, Out, RegValues, StepKind, Stop, TaskEnd,
+    Decider, Exceptions, IoError, KeptCode, Machine, Out, RegValues, StepKind, Stop, SysTickState,
+    TaskEnd,
 };
-use platform::mpu::MOST_REGIONS;
-use platform::stop::LeftOut;
+use platform::mpu::MAX_REGIONS;
+use platform::stop::Unsupported;
 
 /// Writes the text for a part of the machine.
-pub fn put_part<D: Decider, C: KeptCode, L: Levels, U: DueTicks, W: Out>(
+pub fn put_part<D: Decider, C: KeptCode, L: Exceptions, U: SysTickState, W: Out>(
     machine: &Machine<D, C, L, U>,
     part: Part,
     out: &mut W,
@@ -53,13 +54,13 @@ fn put_next(page: &mut Reply, kind: Option<StepKind>, stop: Option<Stop>)
         Some(StepKind::Instruction) => page.put(b"Instruction\n"),
         None => match stop {
             Some(stop) => page.put_stop(&stop),
-            None => page.put_stop(&Stop::OutOfProfile(LeftOut::ClockEnd)),
+            None => page.put_stop(&Stop::OutOfProfile(Unsupported::ClockEnd)),
         },
     }
 }
 
 /// Returns the line of the kind of the next step, or of the stop.
-pub fn next_text<D: Decider, C: KeptCode, L: Levels, U: DueTicks>(
+pub fn next_text<D: Decider, C: KeptCode, L: Exceptions, U: SysTickState>(
     machine: &Machine<D, C, L, U>,
 ) -> Reply
     ensures { result ≡ next_text machine.now.state }
@@ -70,7 +71,7 @@ pub fn next_text<D: Decider, C: KeptCode, L: Levels, U: DueTicks>(
 }
 
 /// Returns the line after an answer: the clock, PC and the kind of the next step, or the stop.
-pub fn closing_text<D: Decider, C: KeptCode, L: Levels, U: DueTicks>(
+pub fn closing_text<D: Decider, C: KeptCode, L: Exceptions, U: SysTickState>(
     machine: &Machine<D, C, L, U>,
 ) -> Reply
     ensures { result ≡ closing_text machine.now.state }
@@ -124,7 +125,7 @@ pub fn registers_text(values: &RegValues) -> Reply
 
 /// Appends the first bytes of memory and of devices from an address on.
 #[tactic(auto, unfolding(debugger_commands::specs::Texts::bytes_text))]
-fn put_bytes<D: Decider, C: KeptCode, L: Levels, U: DueTicks>(
+fn put_bytes<D: Decider, C: KeptCode, L: Exceptions, U: SysTickState>(
     page: &mut Reply,
     machine: &Machine<D, C, L, U>,
     address: u32,
@@ -141,7 +142,7 @@ fn put_bytes<D: Decider, C: KeptCode, L: Levels, U: DueTicks>(
 }
 
 /// Returns the line of `count` bytes of memory.
-pub fn memory_text<D: Decider, C: KeptCode, L: Levels, U: DueTicks>(
+pub fn memory_text<D: Decider, C: KeptCode, L: Exceptions, U: SysTickState>(
     machine: &Machine<D, C, L, U>,
     address: u32,
     count: u32,
@@ -159,13 +160,13 @@ pub fn memory_text<D: Decider, C: KeptCode, L: Levels, U: DueTicks>(
 
 /// Returns the lines of the regions that the board has.
 #[tactic(auto, unfolding(debugger_commands::specs::Texts::region_lines))]
-pub fn regions_text<D: Decider, C: KeptCode, L: Levels, U: DueTicks>(
+pub fn regions_text<D: Decider, C: KeptCode, L: Exceptions, U: SysTickState>(
     machine: &Machine<D, C, L, U>,
 ) -> Reply
-    ensures { result ≡ region_lines machine.now.state.bus.system.mpu MOST_REGIONS }
+    ensures { result ≡ region_lines machine.now.state.bus.system.mpu MAX_REGIONS }
 {
     let mut page = Reply::new();
-    'numbers: for number in 0..MOST_REGIONS {
+    'numbers: for number in 0..MAX_REGIONS {
         put_region(&mut page, number, machine.region(number));
     }
     page

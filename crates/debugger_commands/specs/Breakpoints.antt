@@ -4,8 +4,8 @@ use Rattle.std.specs.List.{list_any}
 use Rattle.platform.specs.Text.{line_feed}
 
 -- how many breakpoints can be set at most
-abbrev pub most_breakpoints : ℕ
-most_breakpoints = 16
+abbrev pub max_breakpoints : ℕ
+max_breakpoints = 16
 
 abbrev pub has : List ℕ → ℕ → Bool
 has breakpoints a = list_any (λ b. b == a) breakpoints
@@ -14,10 +14,10 @@ has breakpoints a = list_any (λ b. b == a) breakpoints
 abbrev pub with_breakpoint : List ℕ → ℕ → List ℕ
 with_breakpoint breakpoints a =
     if has breakpoints a then breakpoints
-    else if nat_lt (length breakpoints) most_breakpoints then breakpoints ++ a ∷ []
+    else if nat_lt (length breakpoints) max_breakpoints then breakpoints ++ a ∷ []
     else breakpoints
 
 abbrev pub breakpoint_text : List ℕ → ℕ → List ℕ
 breakpoint_text breakpoints a =
-    if has breakpoints a || nat_lt (length breakpoints) most_breakpoints then codes "ok" ++ line_feed
+    if has breakpoints a || nat_lt (length breakpoints) max_breakpoints then codes "ok" ++ line_feed
     else codes "error 3" ++ line_feed

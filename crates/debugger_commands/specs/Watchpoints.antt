@@ -11,8 +11,8 @@ use Rattle.platform.specs.declared.access.Kind.TheVariants as kind
 use Rattle.platform.specs.Text.{line_feed}
 
 -- how many watchpoints can be set at most
-abbrev pub most_watchpoints : ℕ
-most_watchpoints = 16
+abbrev pub max_watchpoints : ℕ
+max_watchpoints = 16
 
 abbrev pub is_same : Watchpoint → Watchpoint → Bool
 is_same w other =
@@ -25,12 +25,12 @@ is_set watchpoints w = list_any (λ other. is_same w other) watchpoints
 abbrev pub with_watchpoint : List Watchpoint → Watchpoint → List Watchpoint
 with_watchpoint watchpoints w =
     if is_set watchpoints w then watchpoints
-    else if nat_lt (length watchpoints) most_watchpoints then watchpoints ++ w ∷ []
+    else if nat_lt (length watchpoints) max_watchpoints then watchpoints ++ w ∷ []
     else watchpoints
 
 abbrev pub watchpoint_text : List Watchpoint → Watchpoint → List ℕ
 watchpoint_text watchpoints w =
-    if is_set watchpoints w || nat_lt (length watchpoints) most_watchpoints then codes "ok" ++ line_feed
+    if is_set watchpoints w || nat_lt (length watchpoints) max_watchpoints then codes "ok" ++ line_feed
     else codes "error 3" ++ line_feed
 
 -- reads are loads, pops and vector reads; writes are stores and pushes

@@ -5,12 +5,12 @@ use Rattle.std.specs.Prelude.{[], ◌∷◌, ◌++◌, length, take, drop, posit
 -- ---- a line that is being read, None where it's too long
 
 -- the most bytes of a line, its line feed not counted
-abbrev pub most_bytes : ℕ
-most_bytes = 80
+abbrev pub max_bytes : ℕ
+max_bytes = 80
 
 abbrev pub with_byte : Option (List ℕ) → ℕ → Option (List ℕ)
 with_byte None byte = None
-with_byte (Some line) byte = if nat_lt (length line) most_bytes then Some (line ++ byte ∷ []) else None
+with_byte (Some line) byte = if nat_lt (length line) max_bytes then Some (line ++ byte ∷ []) else None
 
 -- whether no byte was read
 abbrev pub is_empty : Option (List ℕ) → Bool

@@ -8,12 +8,12 @@ use arrayvec::ArrayVec;
 use std::marker::Model;
 
 /// The most breakpoints.
-pub const MOST_BREAKPOINTS: usize = 16;
+pub const MAX_BREAKPOINTS: usize = 16;
 
 /// The addresses at which a breakpoint is set.
 #[derive(Drop)]
 pub struct Breakpoints {
-    addresses: ArrayVec<u32, MOST_BREAKPOINTS>,
+    addresses: ArrayVec<u32, MAX_BREAKPOINTS>,
 }
 
 impl Model for Breakpoints {
@@ -25,7 +25,6 @@ impl Model for Breakpoints {
 }
 
 impl Breakpoints {
-    /// Returns no breakpoint.
     pub fn new() -> Self
         ensures { result ≡ [] }
     {
@@ -52,7 +51,7 @@ impl Breakpoints {
         let mut page = Reply::new();
         if self.has(address) {
             page.put(b"ok\n");
-        } else if self.addresses.len() < MOST_BREAKPOINTS {
+        } else if self.addresses.len() < MAX_BREAKPOINTS {
             self.addresses.push(address);
             page.put(b"ok\n");
         } else {

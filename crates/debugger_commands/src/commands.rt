@@ -20,7 +20,7 @@ use crate::words::{
 use platform::access::Kind;
 
 /// The most steps of one command.
-const MOST_STEPS: u32 = 1_000_000;
+const MAX_STEPS: u32 = 1_000_000;
 
 /// The command of a line.
 #[derive(Clone, Copy)]
@@ -159,7 +159,7 @@ fn read_run(word: Option<&[u8]>) -> Result<Command, LineError>
     let Some(word) = word else {
         return Err(LineError::Command);
     };
-    match number_within(1, MOST_STEPS, word) {
+    match number_within(1, MAX_STEPS, word) {
         Some(steps) => Ok(Command::Run(steps)),
         None => Err(LineError::Word),
     }
@@ -172,7 +172,7 @@ fn read_task(word: Option<&[u8]>) -> Result<Command, LineError>
     let Some(word) = word else {
         return Err(LineError::Command);
     };
-    match number_within(1, MOST_STEPS, word) {
+    match number_within(1, MAX_STEPS, word) {
         Some(steps) => Ok(Command::Task(steps)),
         None => Err(LineError::Word),
     }

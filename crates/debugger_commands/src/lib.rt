@@ -8,7 +8,7 @@ mod choices;
 mod commands;
 mod conditions;
 mod help;
-mod listener;
+mod line_buffer;
 mod numbers;
 mod settings;
 mod texts;
@@ -21,7 +21,7 @@ pub use commands::{
 };
 pub use conditions::{Condition, Hit, LineSelection};
 pub use help::help_text;
-pub use listener::Listener;
+pub use line_buffer::LineBuffer;
 pub use numbers::{number, number_within};
 pub use settings::{Settings, ok_text};
 pub use texts::{

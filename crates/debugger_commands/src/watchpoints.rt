@@ -10,7 +10,7 @@ use platform::access::{Access, Kind};
 use std::marker::Model;
 
 /// The most watchpoints.
-pub const MOST_WATCHPOINTS: usize = 16;
+pub const MAX_WATCHPOINTS: usize = 16;
 
 /// The bytes that are watched, and the accesses to them that end a run.
 #[derive(Clone, Copy, Default)]
@@ -72,7 +72,7 @@ fn end_of(address: u32, size: u32) -> u64
 /// The watchpoints that are set, in their order.
 #[derive(Drop)]
 pub struct Watchpoints {
-    items: ArrayVec<Watchpoint, MOST_WATCHPOINTS>,
+    items: ArrayVec<Watchpoint, MAX_WATCHPOINTS>,
 }
 
 impl Model for Watchpoints {
@@ -85,7 +85,6 @@ impl Model for Watchpoints {
 }
 
 impl Watchpoints {
-    /// Returns no watchpoint.
     pub fn new() -> Self
         ensures { result ≡ [] }
     {
@@ -129,7 +128,7 @@ impl Watchpoints {
         let mut page = Reply::new();
         if self.is_set(&watchpoint) {
             page.put(b"ok\n");
-        } else if self.items.len() < MOST_WATCHPOINTS {
+        } else if self.items.len() < MAX_WATCHPOINTS {
             self.items.push(watchpoint);
             page.put(b"ok\n");
         } else {

@@ -23,7 +23,7 @@ use instruction_set::data_processing::{
     CompareImmediate, Comparison, DataImmediate, DataOperation, DataProcessing, Immediate,
     MoveImmediate, MoveOperation,
 };
-use instruction_set::instruction::{BlockPlace, Decoded, Instruction};
+use instruction_set::instruction::{Decoded, Instruction, ItPosition};
 use instruction_set::registers::Register;
 use instruction_set::unpredictable::UnpredictableCase;
 use regs::expand_imm;
@@ -152,7 +152,7 @@ fn data_immediate(
     let sp = takes_sp(operation);
     let refused = is_refused_first(sp, n) || is_refused_destination(sp, n, d);
     let expanded = match second {
-        None => Decoded::Unpredictable(BlockPlace::Anywhere, UnpredictableCase::Immediate),
+        None => Decoded::Unpredictable(ItPosition::Anywhere, UnpredictableCase::Immediate),
         Some(second) => long(Instruction::DataProcessing(DataProcessing::DataImmediate(
             DataImmediate {
                 operation,
@@ -172,7 +172,7 @@ fn compare_immediate(operation: Comparison, n: Register, second: Option<Immediat
     ensures { result ≡ compare_immediate_row operation n second }
 {
     let expanded = match second {
-        None => Decoded::Unpredictable(BlockPlace::Anywhere, UnpredictableCase::Immediate),
+        None => Decoded::Unpredictable(ItPosition::Anywhere, UnpredictableCase::Immediate),
         Some(second) => long(Instruction::DataProcessing(DataProcessing::CompareImmediate(
             CompareImmediate {
                 operation,
@@ -195,7 +195,7 @@ fn move_immediate(
     ensures { result ≡ move_immediate_row operation s d source }
 {
     let expanded = match source {
-        None => Decoded::Unpredictable(BlockPlace::Anywhere, UnpredictableCase::Immediate),
+        None => Decoded::Unpredictable(ItPosition::Anywhere, UnpredictableCase::Immediate),
         Some(source) => long(Instruction::DataProcessing(DataProcessing::MoveImmediate(
             MoveImmediate {
                 operation,

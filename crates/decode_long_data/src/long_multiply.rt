@@ -47,7 +47,6 @@ pub fn product_rows(x: u32) -> Option<Decoded>
     }
 }
 
-/// Returns MUL.
 #[tactic(auto, unfolding(instruction_set::specs::LongMultiply::multiply_wide_row))]
 fn multiply_wide(n: Register, d: Register, m: Register) -> Decoded
     ensures { result ≡ multiply_wide_row n d m }
@@ -61,7 +60,6 @@ fn multiply_wide(n: Register, d: Register, m: Register) -> Decoded
     long_unless(is_bad(n) || is_bad(d) || is_bad(m), instruction)
 }
 
-/// Returns MLA or MLS.
 #[tactic(auto, unfolding(instruction_set::specs::LongMultiply::multiply_accumulate_row))]
 fn multiply_accumulate(
     operation: Accumulation,
@@ -112,7 +110,6 @@ fn multiply_long(
     long_unless(refused, instruction)
 }
 
-/// Returns SDIV or UDIV.
 #[tactic(auto, unfolding(instruction_set::specs::LongMultiply::divide_row))]
 fn divide(signed: bool, n: Register, d: Register, m: Register) -> Decoded
     ensures { result ≡ divide_row (record { signed = signed; destination = d; dividend = n; divisor = m }) }

@@ -3,7 +3,7 @@
 
 ghost use Rattle.std.specs.Prelude.{◌≡◌, ◌≢◌, ◌==◌, ◌<◌, ◌≤◌, ◌+◌, ◌-◌, ◌*◌, ◌^◌, ◌&&◌, ◌||◌, not, true, false, nat_lt};
 ghost use Rattle.encodings.specs.Masks.{by_masks};
-ghost use Rattle.instruction_set.specs.declared.instruction.BlockPlace.TheVariants.{Anywhere};
+ghost use Rattle.instruction_set.specs.declared.instruction.ItPosition.TheVariants.{Anywhere};
 ghost use Rattle.instruction_set.specs.declared.unpredictable.UnpredictableCase.TheVariants.{BitField};
 ghost use Rattle.instruction_set.specs.LongPlain.{add_wide_row, address_wide_row, clear_field_row, extract_field_row};
 ghost use Rattle.instruction_set.specs.LongPlain.{halfword, insert_field_row, move_top_row, move_wide_row, plain_rows};
@@ -19,7 +19,7 @@ use instruction_set::data_processing::{
     Address, ClearField, DataImmediate, DataOperation, DataProcessing, ExtractField, FlagSetting,
     InsertField, MoveImmediate, MoveOperation, MoveTop, Saturate, ShiftedRegister,
 };
-use instruction_set::instruction::{BlockPlace, Decoded, Instruction};
+use instruction_set::instruction::{Decoded, Instruction, ItPosition};
 use instruction_set::registers::Register;
 use instruction_set::unpredictable::UnpredictableCase;
 
@@ -97,7 +97,6 @@ fn add_wide(operation: DataOperation, n: Register, d: Register, imm12: u16) -> D
     long_unless(is_refused_destination(true, n, d), instruction)
 }
 
-/// Returns ADR.
 #[tactic(auto, unfolding(instruction_set::specs::LongPlain::address_wide_row))]
 fn address_wide(d: Register, offset: u32) -> Decoded
     ensures { result ≡ address_wide_row d offset }
@@ -109,7 +108,6 @@ fn address_wide(d: Register, offset: u32) -> Decoded
     long_unless(is_bad(d), instruction)
 }
 
-/// Returns MOVW.
 #[tactic(auto, unfolding(instruction_set::specs::LongPlain::move_wide_row))]
 fn move_wide(d: Register, imm16: u16) -> Decoded
     ensures { result ≡ move_wide_row d imm16 }
@@ -123,7 +121,6 @@ fn move_wide(d: Register, imm16: u16) -> Decoded
     long_unless(is_bad(d), instruction)
 }
 
-/// Returns MOVT.
 #[tactic(auto, unfolding(instruction_set::specs::LongPlain::move_top_row))]
 fn move_top(d: Register, imm16: u16) -> Decoded
     ensures { result ≡ move_top_row d imm16 }
@@ -157,7 +154,7 @@ fn long_within(outside: bool, instruction: Instruction) -> Decoded
 {
     unless(
         outside,
-        BlockPlace::Anywhere,
+        ItPosition::Anywhere,
         UnpredictableCase::BitField,
         long(instruction),
     )

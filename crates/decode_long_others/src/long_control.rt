@@ -12,7 +12,7 @@ use encodings::operands::{hint, sign_extend};
 use encodings::outcomes::{is_bad, long, placed, unless, unless_refused};
 use encodings::rows;
 use instruction_set::branch::{Branch, ConditionalBranch, Offset};
-use instruction_set::instruction::{BlockPlace, Decoded, Instruction, InstructionLength};
+use instruction_set::instruction::{Decoded, Instruction, InstructionLength, ItPosition};
 use instruction_set::load_store::Exclusive;
 use instruction_set::registers::Register;
 use instruction_set::system::{Hint, MoveFromSpecial, MoveToSpecial, SpecialRegister, System};
@@ -89,31 +89,28 @@ fn conditional_offset(sign: u32, j1: u32, j2: u32, imm6: u32, imm11: u32) -> u32
     sign_extend(21, sign * (1 << 20) + low)
 }
 
-/// Returns BL.
 #[tactic(auto, unfolding(instruction_set::specs::LongControl::branch_with_link_row))]
 fn branch_with_link(offset: u32) -> Decoded
     ensures { result ≡ branch_with_link_row offset }
 {
     placed(
         InstructionLength::Long,
-        BlockPlace::LastOnly,
+        ItPosition::LastOnly,
         Instruction::Branch(Branch::WithLink(Offset { offset })),
     )
 }
 
-/// Returns B.
 #[tactic(auto, unfolding(instruction_set::specs::LongControl::branch_wide_row))]
 fn branch_wide(offset: u32) -> Decoded
     ensures { result ≡ branch_wide_row offset }
 {
     placed(
         InstructionLength::Long,
-        BlockPlace::LastOnly,
+        ItPosition::LastOnly,
         Instruction::Branch(Branch::Immediate(Offset { offset })),
     )
 }
 
-/// Returns B with a condition.
 #[tactic(auto, unfolding(instruction_set::specs::LongControl::branch_wide_if_row))]
 fn branch_wide_if(condition: u8, offset: u32) -> Decoded
     ensures { result ≡ branch_wide_if_row condition offset }
@@ -122,7 +119,7 @@ fn branch_wide_if(condition: u8, offset: u32) -> Decoded
         condition,
         offset,
     }));
-    placed(InstructionLength::Long, BlockPlace::Never, instruction)
+    placed(InstructionLength::Long, ItPosition::Never, instruction)
 }
 
 /// Returns MSR: the mask is 10, since there are no GE flags to write.
@@ -131,7 +128,7 @@ fn move_to_special(n: Register, mask: u32, number: u8) -> Decoded
     ensures { result ≡ move_to_special_row n mask number }
 {
     let known = match SpecialRegister::of(number) {
-        None => Decoded::Unpredictable(BlockPlace::Anywhere, UnpredictableCase::SpecialRegister),
+        None => Decoded::Unpredictable(ItPosition::Anywhere, UnpredictableCase::SpecialRegister),
         Some(special) => long(Instruction::System(System::MoveToSpecial(MoveToSpecial {
             special,
             source: n,
@@ -139,20 +136,19 @@ fn move_to_special(n: Register, mask: u32, number: u8) -> Decoded
     };
     let masked = unless(
         mask != 0b10,
-        BlockPlace::Anywhere,
+        ItPosition::Anywhere,
         UnpredictableCase::SpecialRegister,
         known,
     );
     unless_refused(is_bad(n), masked)
 }
 
-/// Returns MRS.
 #[tactic(auto, unfolding(instruction_set::specs::LongControl::move_from_special_row))]
 fn move_from_special(d: Register, number: u8) -> Decoded
     ensures { result ≡ move_from_special_row d number }
 {
     let known = match SpecialRegister::of(number) {
-        None => Decoded::Unpredictable(BlockPlace::Anywhere, UnpredictableCase::SpecialRegister),
+        None => Decoded::Unpredictable(ItPosition::Anywhere, UnpredictableCase::SpecialRegister),
         Some(special) => long(Instruction::System(System::MoveFromSpecial(MoveFromSpecial {
             special,
             destination: d,

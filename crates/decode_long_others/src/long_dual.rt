@@ -12,7 +12,7 @@ use encodings::operands::{byte_or_halfword, indexed, indexing_of, signed_offset,
 use encodings::outcomes::{is_bad, long_unless, placed_unless};
 use encodings::rows;
 use instruction_set::branch::{Branch, TableBranch};
-use instruction_set::instruction::{BlockPlace, Decoded, Instruction, InstructionLength};
+use instruction_set::instruction::{Decoded, Instruction, InstructionLength, ItPosition};
 use instruction_set::load_store::{
     Exclusive, ImmediateAddress, Indexing, LoadDual, LoadDualLiteral, LoadExclusive,
     LoadStoreMultiple, StoreDual, StoreExclusive,
@@ -91,7 +91,6 @@ fn store_exclusive(size: Size, d: Register, t: Register, n: Register, offset: u3
     long_unless(refused, instruction)
 }
 
-/// Returns LDREX, LDREXB or LDREXH.
 #[tactic(auto, unfolding(instruction_set::specs::LongDual::load_exclusive_row))]
 fn load_exclusive(size: Size, t: Register, n: Register, offset: u32) -> Decoded
     ensures { result ≡ load_exclusive_row (record { size = size; target = t; base = n; offset = offset }) }
@@ -106,7 +105,6 @@ fn load_exclusive(size: Size, t: Register, n: Register, offset: u32) -> Decoded
     long_unless(refused, instruction)
 }
 
-/// Returns TBB or TBH.
 #[tactic(auto, unfolding(instruction_set::specs::LongDual::table_branch_row))]
 fn table_branch(size: Size, n: Register, m: Register) -> Decoded
     ensures { result ≡ table_branch_row size n m }
@@ -120,7 +118,7 @@ fn table_branch(size: Size, n: Register, m: Register) -> Decoded
     placed_unless(
         refused,
         InstructionLength::Long,
-        BlockPlace::LastOnly,
+        ItPosition::LastOnly,
         instruction,
     )
 }

@@ -13,7 +13,7 @@ use encodings::operands::{
 };
 use encodings::outcomes::{is_bad, last_only_if, long, long_unless, placed_unless, unless_refused};
 use encodings::rows;
-use instruction_set::instruction::{BlockPlace, Decoded, Instruction, InstructionLength};
+use instruction_set::instruction::{Decoded, Instruction, InstructionLength, ItPosition};
 use instruction_set::load_store::{
     ImmediateAddress, LoadForm, LoadImmediate, LoadLiteral, LoadRegister, LoadStore,
     RegisterAddress,
@@ -139,7 +139,7 @@ fn word_form() -> LoadForm
 }
 
 /// Returns where a load may be in an IT block: a word that is loaded to PC branches.
-fn place_of_load(size: Size, t: Register) -> BlockPlace
+fn place_of_load(size: Size, t: Register) -> ItPosition
     ensures { result ≡ place_of_load size t }
 {
     last_only_if(size.is_word() && t.number() == 15)

@@ -8,7 +8,7 @@ ghost use Rattle.instruction_set.specs.LongMultiple.{has_few, load_list_wide_row
 use encodings::operands::is_in_list;
 use encodings::outcomes::{last_only_if, long_unless, placed_unless, unless};
 use encodings::rows;
-use instruction_set::instruction::{BlockPlace, Decoded, Instruction, InstructionLength};
+use instruction_set::instruction::{Decoded, Instruction, InstructionLength, ItPosition};
 use instruction_set::load_store::ListOrder::{DecrementBefore, IncrementAfter};
 use instruction_set::load_store::{ListOrder, LoadMultiple, LoadStoreMultiple, StoreMultiple};
 use instruction_set::registers::{Register, RegisterList};
@@ -66,7 +66,7 @@ fn store_list_wide(n: Register, list: u16, order: ListOrder, write_back: bool) -
     ));
     unless(
         has_few(list),
-        BlockPlace::Anywhere,
+        ItPosition::Anywhere,
         UnpredictableCase::FewRegisters,
         long_unless(refused, instruction),
     )

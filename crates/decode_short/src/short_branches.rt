@@ -9,7 +9,7 @@ use encodings::operands::sign_extend;
 use encodings::outcomes::{placed, short};
 use encodings::rows;
 use instruction_set::branch::{Branch, ConditionalBranch, Offset};
-use instruction_set::instruction::{BlockPlace, Decoded, Instruction, InstructionLength};
+use instruction_set::instruction::{Decoded, Instruction, InstructionLength, ItPosition};
 use instruction_set::system::System;
 
 /// Decodes a halfword by these rows.
@@ -37,7 +37,7 @@ fn branch_if(condition: u8, halfwords: u8) -> Decoded
         condition,
         offset: sign_extend(9, halfwords as u32 * 2),
     }));
-    placed(InstructionLength::Short, BlockPlace::Never, instruction)
+    placed(InstructionLength::Short, ItPosition::Never, instruction)
 }
 
 /// Returns B: the offset counts halfwords, and is signed.
@@ -49,5 +49,5 @@ fn branch(halfwords: u32) -> Decoded
     let instruction = Instruction::Branch(Branch::Immediate(Offset {
         offset: sign_extend(12, halfwords * 2),
     }));
-    placed(InstructionLength::Short, BlockPlace::LastOnly, instruction)
+    placed(InstructionLength::Short, ItPosition::LastOnly, instruction)
 }

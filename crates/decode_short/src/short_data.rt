@@ -84,7 +84,6 @@ fn shift_register(shift_type: ShiftType, d: Register, m: Register) -> Decoded
     })))
 }
 
-/// Returns MVN of a register.
 #[tactic(auto, unfolding(instruction_set::specs::ShortData::move_not_row))]
 fn move_not(d: Register, m: Register) -> Decoded
     ensures { result ≡ move_not_row d m }
@@ -109,7 +108,6 @@ fn compare_registers(operation: Comparison, n: Register, m: Register) -> Decoded
     })))
 }
 
-/// Returns MUL.
 #[tactic(auto, unfolding(instruction_set::specs::ShortData::multiply_row))]
 fn multiply(d: Register, m: Register) -> Decoded
     ensures { result ≡ multiply_row d m }

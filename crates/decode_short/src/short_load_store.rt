@@ -12,7 +12,7 @@ ghost use Rattle.instruction_set.specs.ShortLoadStore.{store_register_row};
 use encodings::operands::{at_offset, is_above_lowest, is_in_list};
 use encodings::outcomes::{short, unless};
 use encodings::rows;
-use instruction_set::instruction::{BlockPlace, Decoded, Instruction};
+use instruction_set::instruction::{Decoded, Instruction, ItPosition};
 use instruction_set::load_store::{
     ListOrder, LoadForm, LoadImmediate, LoadLiteral, LoadMultiple, LoadRegister, LoadStore,
     LoadStoreMultiple, RegisterAddress, StoreImmediate, StoreMultiple, StoreRegister,
@@ -170,11 +170,11 @@ fn store_list(n: Register, list: u8) -> Decoded
     ));
     unless(
         list == 0,
-        BlockPlace::Anywhere,
+        ItPosition::Anywhere,
         UnpredictableCase::FewRegisters,
         unless(
             is_above_lowest(n, list as u16),
-            BlockPlace::Anywhere,
+            ItPosition::Anywhere,
             UnpredictableCase::StoredBase,
             short(instruction),
         ),
@@ -196,7 +196,7 @@ fn load_list(n: Register, list: u8) -> Decoded
     ));
     unless(
         list == 0,
-        BlockPlace::Anywhere,
+        ItPosition::Anywhere,
         UnpredictableCase::FewRegisters,
         short(instruction),
     )

@@ -21,7 +21,7 @@ use instruction_set::data_processing::{
     Address, DataImmediate, DataOperation, DataProcessing, Extend, FlagSetting, Rearrange,
     Rearrangement,
 };
-use instruction_set::instruction::{BlockPlace, Decoded, Instruction, InstructionLength};
+use instruction_set::instruction::{Decoded, Instruction, InstructionLength, ItPosition};
 use instruction_set::load_store::{ListOrder, LoadMultiple, LoadStoreMultiple, StoreMultiple};
 use instruction_set::registers::{Register, RegisterList};
 use instruction_set::size::Size;
@@ -110,7 +110,6 @@ fn extend(signed: bool, size: Size, d: Register, m: Register) -> Decoded
     })))
 }
 
-/// Returns REV, REV16 or REVSH.
 #[tactic(auto, unfolding(instruction_set::specs::ShortMiscellaneous::rearrange_row))]
 fn rearrange(operation: Rearrangement, d: Register, m: Register) -> Decoded
     ensures { result ≡ rearrange_row operation d m }
@@ -139,7 +138,7 @@ fn push(lr: u16, list: u8) -> Decoded
     ));
     unless(
         list == 0,
-        BlockPlace::Anywhere,
+        ItPosition::Anywhere,
         UnpredictableCase::FewRegisters,
         short(instruction),
     )
@@ -180,10 +179,9 @@ fn compare_and_branch(nonzero: bool, halfwords: u32, n: Register) -> Decoded
         register: n,
         offset: halfwords * 2,
     }));
-    placed(InstructionLength::Short, BlockPlace::Never, instruction)
+    placed(InstructionLength::Short, ItPosition::Never, instruction)
 }
 
-/// Returns CPS.
 #[tactic(auto, unfolding(instruction_set::specs::ShortMiscellaneous::change_state_row))]
 fn change_state(disables: bool, primask: bool, faultmask: bool) -> Decoded
     ensures { result ≡ change_state_row disables primask faultmask }
@@ -196,12 +194,11 @@ fn change_state(disables: bool, primask: bool, faultmask: bool) -> Decoded
     placed_unless(
         !primask && !faultmask,
         InstructionLength::Short,
-        BlockPlace::Never,
+        ItPosition::Never,
         instruction,
     )
 }
 
-/// Returns BKPT.
 #[tactic(auto, unfolding(instruction_set::specs::ShortMiscellaneous::breakpoint_row))]
 fn breakpoint(number: u8) -> Decoded
     ensures { result ≡ breakpoint_row number }
@@ -223,11 +220,11 @@ fn if_then(condition: u8, mask: u8) -> Decoded
 {
     unless(
         condition == 15 || condition == 14 && !is_one_bit(mask),
-        BlockPlace::Never,
+        ItPosition::Never,
         UnpredictableCase::ItBlock,
         placed(
             InstructionLength::Short,
-            BlockPlace::Never,
+            ItPosition::Never,
             Instruction::Branch(Branch::IfThen(IfThen { condition, mask })),
         ),
     )

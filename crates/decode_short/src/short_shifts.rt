@@ -14,7 +14,7 @@ use instruction_set::data_processing::{
     CompareImmediate, Comparison, DataImmediate, DataOperation, DataProcessing, DataRegister,
     FlagSetting, MoveImmediate, MoveOperation, MoveRegister, ShiftedRegister,
 };
-use instruction_set::instruction::{BlockPlace, Decoded, Instruction, InstructionLength};
+use instruction_set::instruction::{Decoded, Instruction, InstructionLength, ItPosition};
 use instruction_set::registers::Register;
 use regs::decode_imm_shift;
 
@@ -60,7 +60,7 @@ fn move_low(d: Register, m: Register) -> Decoded
         destination: d,
         source: unshifted(m),
     }));
-    placed(InstructionLength::Short, BlockPlace::Never, instruction)
+    placed(InstructionLength::Short, ItPosition::Never, instruction)
 }
 
 /// Returns a shift by a number: MOV of a shifted register.
@@ -112,7 +112,6 @@ pub(crate) fn data_number(operation: DataOperation, d: Register, n: Register, va
     })))
 }
 
-/// Returns MOV of a number.
 #[tactic(auto, unfolding(instruction_set::specs::ShortShifts::move_number_row))]
 fn move_number(d: Register, value: u32) -> Decoded
     ensures { result ≡ move_number_row d value }
@@ -125,7 +124,6 @@ fn move_number(d: Register, value: u32) -> Decoded
     })))
 }
 
-/// Returns CMP with a number.
 #[tactic(auto, unfolding(instruction_set::specs::ShortShifts::compare_number_row))]
 fn compare_number(n: Register, value: u32) -> Decoded
     ensures { result ≡ compare_number_row n value }

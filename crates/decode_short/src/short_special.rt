@@ -14,7 +14,7 @@ use instruction_set::data_processing::{
     CompareRegister, Comparison, DataOperation, DataProcessing, DataRegister, FlagSetting,
     MoveOperation, MoveRegister,
 };
-use instruction_set::instruction::{BlockPlace, Decoded, Instruction, InstructionLength};
+use instruction_set::instruction::{Decoded, Instruction, InstructionLength, ItPosition};
 use instruction_set::registers::Register;
 
 /// Decodes a halfword by these rows.
@@ -88,7 +88,6 @@ fn move_high(d: Register, m: Register) -> Decoded
     )
 }
 
-/// Returns BX.
 #[tactic(auto, unfolding(instruction_set::specs::ShortSpecial::branch_exchange_row))]
 fn branch_exchange(m: Register) -> Decoded
     ensures { result ≡ branch_exchange_row m }
@@ -97,10 +96,9 @@ fn branch_exchange(m: Register) -> Decoded
         links: false,
         target: m,
     }));
-    placed(InstructionLength::Short, BlockPlace::LastOnly, instruction)
+    placed(InstructionLength::Short, ItPosition::LastOnly, instruction)
 }
 
-/// Returns BLX.
 #[tactic(auto, unfolding(instruction_set::specs::ShortSpecial::branch_link_exchange_row))]
 fn branch_link_exchange(m: Register) -> Decoded
     ensures { result ≡ branch_link_exchange_row m }
@@ -112,7 +110,7 @@ fn branch_link_exchange(m: Register) -> Decoded
     placed_unless(
         m.number() == 15,
         InstructionLength::Short,
-        BlockPlace::LastOnly,
+        ItPosition::LastOnly,
         instruction,
     )
 }

@@ -1,5 +1,5 @@
 -- What the pokes of a tick leave in a word, and the devices that lines are on.
-use Rattle.std.proofs.Common.{◌≡◌, ◌≢◌, ℕ, ◌+◌, ◌*◌, ◌/◌, ◌%◌, ◌^◌, ◌<◌, ◌≤◌, Bool, true, false}
+use Rattle.std.proofs.Common.{◌≡◌, ◌≢◌, ℕ, ◌+◌, ◌*◌, ◌/◌, ◌%◌, ◌<◌, ◌≤◌, Bool, true, false}
 use Rattle.std.proofs.Common.{List, [], ◌∷◌, Option, Some, None}
 use Rattle.std.proofs.Common.{length, drop, ◌++◌, slice_set, slice_index_or, refl, ap, arith, subst, sym, ◌∙◌, ◌==◌}
 use Rattle.std.proofs.Common.{if◌then◌else◌}
@@ -9,11 +9,14 @@ use Rattle.devices.specs.declared.device.Device.{Device}
 use Rattle.devices.specs.declared.device.Poke.{Poke}
 use Rattle.devices.specs.Devices.{DeviceWords, Word, at_start, fresh, poked, position_from, with_content, word_at}
 use Rattle.devices.specs.Laws.{AreWhole, LastPokeDecides, given}
-use Rattle.devices.specs.Lines.{levels_by}
+use Rattle.devices.specs.Apart.{are_apart}
+use Rattle.devices.specs.Lines.{are_lined, levels_by}
 use Rattle.devices.specs.Pokes.{last_poke, poked_all}
 use Rattle.devices.specs.Table.{has, place}
 use Rattle.devices.specs.Words.{stored_for}
+use Rattle.devices.proofs.Lined.{lined_poked}
 use Rattle.devices.proofs.Positions.{first_pokes}
+use Rattle.devices.proofs.Separate.{apart_poked}
 use Rattle.std.proofs.lemmas.List.{length-replicate}
 
 begins_below : (t : Device) (a : ℕ) → has t a ≡ true → t.base ≤ a
@@ -200,16 +203,19 @@ made_whole made n table e =
     first_whole [] es whole = tt
     first_whole (d ∷ ds) es whole = (whole.0, first_whole ds es whole.1)
 
--- devices that are as many as there may be, and whole
-abbrev Are256Whole : List DeviceWords → Type 0
-Are256Whole ds = (length ds ≤ 256) × AreWhole ds
+-- devices that are as many as there may be, whole, and with lines as said
+abbrev Fit : Bool → Bool → List DeviceWords → Type 0
+Fit lined apart ds = (length ds ≤ 256) × AreWhole ds × (lined ≡ are_lined ds) × (apart ≡ are_apart ds)
 
 -- one device took a content
-pub put_fits : (ds : List DeviceWords) (ticks a v j : ℕ) (d x : DeviceWords) → position_from 0 ds a ≡ Some j →
-    x ≡ with_content (slice_index_or ds j d) ticks a v → Are256Whole ds → Are256Whole (slice_set ds j x)
-put_fits ds ticks a v j d x first e fits = (
+pub put_fits : (lined apart : Bool) (ds : List DeviceWords) (ticks a v j : ℕ) (d x : DeviceWords) →
+    position_from 0 ds a ≡ Some j → x ≡ with_content (slice_index_or ds j d) ticks a v → Fit lined apart ds →
+    Fit lined apart (slice_set ds j x)
+put_fits lined apart ds ticks a v j d x first e fits = (
   (let same = length-set ds j x in rw same fits.0),
   rw (e, first_pokes ds ticks a v j d first) (poke_whole ds ticks a v fits.1),
+  rw (e, first_pokes ds ticks a v j d first) (fits.2 ∙ sym (lined_poked ds ticks a v)),
+  rw (e, first_pokes ds ticks a v j d first) (fits.3 ∙ sym (apart_poked ds ticks a v)),
 )
 
 -- pokes leave the devices, on which the lines are

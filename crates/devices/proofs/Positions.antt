@@ -1,9 +1,10 @@
 -- The first device that has an address.
 use Rattle.std.proofs.Common.{◌≡◌, ℕ, suc, ◌+◌, ◌<◌, Bool, true, false, List, [], ◌∷◌, length}
-use Rattle.std.proofs.Common.{slice_set, slice_index_or}
+use Rattle.std.proofs.Common.{slice_set, slice_index, slice_index_or}
 use Rattle.std.proofs.Common.{Some, None, refl, ap, arith, subst}
-use Rattle.devices.specs.Devices.{DeviceWords, poked, position_from, with_content}
-use Rattle.devices.specs.Table.{has}
+use Rattle.devices.specs.Devices.{DeviceWords, Word, poked, position_from, with_content, word_at}
+use Rattle.devices.specs.Laws.{have}
+use Rattle.devices.specs.Table.{has, place}
 
 -- where there is none, nothing is poked
 pub none_poked : (k : ℕ) (ds : List DeviceWords) (ticks a v : ℕ) → position_from k ds a ≡ None → poked ds ticks a v ≡ ds
@@ -15,12 +16,55 @@ none_poked k (d ∷ ds) ticks a v e = by_has (has d.device a) refl (none_poked (
     by_has true h rest = absurd cc (rw h at e)
     by_has false h rest = rw h (ap (λ tail. d ∷ tail) (rest (rw h at e)))
 
+-- and there is no word
+none_word_from : (k : ℕ) (ds : List DeviceWords) (a : ℕ) → position_from k ds a ≡ None → word_at ds a ≡ None
+none_word_from k [] a e = refl
+none_word_from k (d ∷ ds) a e = by_has (has d.device a) refl (none_word_from (suc k) ds a)
+  where
+    by_has : (b : Bool) → has d.device a ≡ b → (position_from (suc k) ds a ≡ None → word_at ds a ≡ None) →
+        word_at (d ∷ ds) a ≡ None
+    by_has true h rest = absurd cc (rw h at e)
+    by_has false h rest = rw h (rest (rw h at e))
+
+pub none_word : (ds : List DeviceWords) (a : ℕ) → position_from 0 ds a ≡ None → word_at ds a ≡ None
+none_word ds a e = none_word_from 0 ds a e
+
+-- a number is found where a device has the address
+none_have_from : (k : ℕ) (ds : List DeviceWords) (a : ℕ) → position_from k ds a ≡ None → have ds a ≡ false
+none_have_from k [] a e = refl
+none_have_from k (d ∷ ds) a e = by_has (has d.device a) refl (none_have_from (suc k) ds a)
+  where
+    by_has : (b : Bool) → has d.device a ≡ b → (position_from (suc k) ds a ≡ None → have ds a ≡ false) →
+        have (d ∷ ds) a ≡ false
+    by_has true h rest = absurd cc (rw h at e)
+    by_has false h rest = rw h (rest (rw h at e))
+
+pub none_have : (ds : List DeviceWords) (a : ℕ) → position_from 0 ds a ≡ None → have ds a ≡ false
+none_have ds a e = none_have_from 0 ds a e
+
+first_has_from : (k : ℕ) (ds : List DeviceWords) (a j : ℕ) → position_from k ds a ≡ Some j → have ds a ≡ true
+first_has_from k [] a j e = absurd cc
+first_has_from k (d ∷ ds) a j e = by_has (has d.device a) refl (first_has_from (suc k) ds a j)
+  where
+    by_has : (b : Bool) → has d.device a ≡ b → (position_from (suc k) ds a ≡ Some j → have ds a ≡ true) →
+        have (d ∷ ds) a ≡ true
+    by_has true h rest = rw h refl
+    by_has false h rest = rw h (rest (rw h at e))
+
+pub first_has : (ds : List DeviceWords) (a j : ℕ) → position_from 0 ds a ≡ Some j → have ds a ≡ true
+first_has ds a j e = first_has_from 0 ds a j e
+
+-- the word at an address in a device
+abbrev word_in : DeviceWords → ℕ → Word
+word_in d a = record { device = d.device; stored = slice_index d.words (place d.device a) }
+
 -- number i has the address, and is the first that has it
 pub record IsFirst (ds : List DeviceWords) (a i : ℕ) : Type 0 where
   pub below : i < length ds
   pub there : (d : DeviceWords) → has (slice_index_or ds i d).device a ≡ true
   pub pokes : (ticks v : ℕ) (d : DeviceWords) →
       slice_set ds i (with_content (slice_index_or ds i d) ticks a v) ≡ poked ds ticks a v
+  pub word : (d : DeviceWords) → word_at ds a ≡ Some (word_in (slice_index_or ds i d) a)
 
 -- likewise, counted from k on
 pub record IsFirstFrom (k : ℕ) (ds : List DeviceWords) (a j : ℕ) : Type 0 where
@@ -40,6 +84,7 @@ first_from k (d ∷ ds) a j e = by_has (has d.device a) refl (first_from (suc k)
         below = (let s : rest.i < length ds = rest.first.below in omega arith);
         there = λ other. rest.first.there other;
         pokes = λ ticks v other. rw h (ap (λ tail. d ∷ tail) (rest.first.pokes ticks v other));
+        word = λ other. rw h (rest.first.word other);
       };
     }
 
@@ -52,6 +97,7 @@ first_from k (d ∷ ds) a j e = by_has (has d.device a) refl (first_from (suc k)
         below = omega arith;
         there = λ other. h;
         pokes = λ ticks v other. rw h refl;
+        word = λ other. rw h refl;
       };
     }
     by_has false h rest = next h (rest (rw h at e))
@@ -73,4 +119,10 @@ pub first_pokes : (ds : List DeviceWords) (ticks a v j : ℕ) (d : DeviceWords) 
     slice_set ds j (with_content (slice_index_or ds j d) ticks a v) ≡ poked ds ticks a v
 first_pokes ds ticks a v j d e = (first_of ds a j e).pokes ticks v d
 
+pub first_word : (ds : List DeviceWords) (a j : ℕ) (d : DeviceWords) → position_from 0 ds a ≡ Some j →
+    word_at ds a ≡ Some (word_in (slice_index_or ds j d) a)
+first_word ds a j d e = (first_of ds a j e).word d
+
 pub ruleset position_lemmas = (none_poked, first_below, first_there, first_pokes)
+
+pub ruleset word_lemmas = (first_below, first_there, first_word)

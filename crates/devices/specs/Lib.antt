@@ -4,5 +4,6 @@ pub mod Parts
 pub mod Devices
 pub mod Pokes
 pub mod Lines
+pub mod Apart
 pub mod Copies
 pub mod Laws

@@ -1,10 +1,19 @@
 -- The lines of devices (profile): one is high while a bit is 1 both in its device's first word and in the word that
 -- enables it.
-use Rattle.std.specs.Prelude.{ℕ, Bool, false, not, ◌||◌, ◌==◌, bit_and, List, [], ◌∷◌, ◌++◌, Option, Some, None, unwrap_or}
+use Rattle.std.specs.Prelude.{ℕ, Bool, true, false, not, ◌||◌, ◌==◌, bit_and, List, [], ◌∷◌, ◌++◌, Option, Some, None, unwrap_or}
 use Rattle.devices.specs.declared.device.Device.{Device}
 use Rattle.devices.specs.declared.device.Line.{Line}
 use Rattle.devices.specs.declared.level.Level.{Level}
 use Rattle.devices.specs.Devices.{DeviceWords, value_at}
+
+abbrev pub has_line : Option Line → Bool
+has_line None = false
+has_line (Some line) = true
+
+-- whether one of some devices has a line
+abbrev pub are_lined : List DeviceWords → Bool
+are_lined [] = false
+are_lined (d ∷ ds) = has_line d.device.line || are_lined ds
 
 -- whether a line is that of an interrupt
 abbrev pub is_line_of : Option Line → ℕ → Bool

@@ -1,5 +1,5 @@
 -- The pokes of a tick, one after another (profile).
-use Rattle.std.specs.Prelude.{ℕ, ◌/◌, List, [], ◌∷◌, Option, Some, None, ◌==◌, if◌then◌else◌}
+use Rattle.std.specs.Prelude.{ℕ, ◌/◌, List, [], ◌∷◌, Option, Some, ◌==◌, if◌then◌else◌}
 use Rattle.devices.specs.declared.device.Poke.{Poke}
 use Rattle.devices.specs.Devices.{DeviceWords, poked}
 

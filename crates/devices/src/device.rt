@@ -3,7 +3,7 @@
 ghost use Rattle.std.specs.Prelude.{◌≡◌, ◌<◌, ◌+◌, ◌≤◌, ◌%◌, ◌^◌};
 
 /// The most devices that a board can have.
-pub const MOST_DEVICES: usize = 256;
+pub const MAX_DEVICES: usize = 256;
 
 /// What a store does to the bits that it covers.
 #[derive(Clone, Copy)]

@@ -1,21 +1,27 @@
 //! The words of a board's devices (profile).
 
-ghost use Rattle.std.specs.Prelude.{◌≡◌, ◌<◌, ◌≤◌, ◌^◌, ◌==◌, length, option_map, not, true, IfOk, IfSome};
+ghost use Rattle.std.specs.Prelude.{◌≡◌, ◌<◌, ◌≤◌, ◌^◌, ◌==◌, ℕ, Some, [], length, option_map, slice_index};
+ghost use Rattle.std.specs.Prelude.{not, true, false, IfOk, IfSome};
 ghost use Rattle.instruction_set.specs.Sizes.{bytes_in};
-ghost use Rattle.devices.specs.Table.{has};
+ghost use Rattle.devices.specs.Table.{has, place};
 ghost use Rattle.devices.specs.Copies.{HaveSameDevices};
 ghost use Rattle.devices.specs.Devices.{after_store_at, at_start, content_at, fresh, loaded, poked, poked_by};
 ghost use Rattle.devices.specs.Devices.{position_from, read_at, sent_at, value_at, with_content, word_at};
+ghost use Rattle.devices.specs.Lines.{are_lined, levels};
 ghost use Rattle.devices.specs.Laws.{have};
 ghost use Rattle.devices.specs.Pokes.{poked_all};
 
-use crate::device::{Device, MOST_DEVICES, Poke};
+use crate::apart::are_apart;
+use crate::device::{Device, MAX_DEVICES, Poke};
 use crate::part::{covered, in_place, part, sent};
 use crate::pokes::{NoPokes, Pokes};
 use crate::word::{content_after, content_of, stored_for, value_of};
 use instruction_set::size::Size;
 use std::alloc::{AllocError, Global};
 use std::marker::Model;
+
+/// How many numbers of devices are kept: those at which an address was met last.
+const NEAR: usize = 64;
 
 /// A device, and what is stored for each of its words.
 #[derive(Drop)]
@@ -39,18 +45,27 @@ impl Model for DeviceWords {
 #[derive(Drop)]
 pub struct Devices {
     devices: Vec<DeviceWords>,
+    /// Whether a device has a line.
+    lined: bool,
+    /// Whether no two devices have one address.
+    apart: bool,
+    /// Where the device of an address is looked for first, by a few bits of the address. Contracts don't see it.
+    near: [u8; NEAR],
 }
 
 impl Model for Devices {
-    ghost use Rattle.std.specs.Prelude.{List, ◌≤◌, length};
+    ghost use Rattle.std.specs.Prelude.{List, ◌≡◌, ◌≤◌, length};
     ghost use Rattle.devices.specs.Devices.{DeviceWords as State};
     ghost use Rattle.devices.specs.Laws.{AreWhole};
+    ghost use Rattle.devices.specs.Lines.{are_lined};
+    ghost use Rattle.devices.specs.Apart.{are_apart};
 
     ghost Value = { List State };
 
     ghost view = { λ d. d.devices.items };
 
-    ghost invariant = { λ d. (length d.devices.items ≤ 256) × AreWhole d.devices.items };
+    ghost invariant = { λ d. (length d.devices.items ≤ 256) × AreWhole d.devices.items
+        × (d.lined ≡ are_lined d.devices.items) × (d.apart ≡ are_apart d.devices.items) };
 }
 
 /// What a store to a device sends.
@@ -67,14 +82,21 @@ impl Devices {
     pub fn new(alloc: Global, table: &[Device]) -> Result<Self, AllocError>
         ensures { IfOk result (λ devices. devices ≡ fresh table.now) }
     {
-        if table.len() > MOST_DEVICES {
+        if table.len() > MAX_DEVICES {
             return Err(AllocError);
         }
         let mut devices = Vec::with_capacity(alloc, table.len())?;
         'devices: for device in table {
             devices.push(DeviceWords::at_start(alloc, device)?)?;
         }
-        Ok(Devices { devices })
+        let lined = are_lined(devices.as_slice());
+        let apart = are_apart(devices.as_slice());
+        Ok(Devices {
+            devices,
+            lined,
+            apart,
+            near: [0; NEAR],
+        })
     }
 
     /// Returns a copy. Fails where memory can't be allocated.
@@ -85,7 +107,12 @@ impl Devices {
         'devices: for device in self.devices.as_slice() {
             devices.push(device.copied(alloc)?)?;
         }
-        Ok(Devices { devices })
+        Ok(Devices {
+            devices,
+            lined: self.lined,
+            apart: self.apart,
+            near: [0; NEAR],
+        })
     }
 
     /// Takes the words of the same devices, without an allocation.
@@ -94,6 +121,8 @@ impl Devices {
         ensures { self.new ≡ other.now }
     {
         copy_words(self.devices.as_mut_slice(), other.devices.as_slice());
+        self.lined = other.lined;
+        self.apart = other.apart;
     }
 
     /// Returns the devices, in the order of the board.
@@ -112,6 +141,16 @@ impl Devices {
         !self.devices.is_empty()
     }
 
+    /// Returns whether a device has a line. Where none has, there are no levels.
+    #[inline]
+    #[tactic(auto, using(crate::proofs::Lined::none_lined))]
+    pub fn are_lined(&self) -> bool
+        ensures value { result ≡ are_lined self.now }
+        ensures none { (ticks : ℕ) → result ≡ false → levels self.now ticks ≡ [] }
+    {
+        self.lined
+    }
+
     /// Returns whether a device has an address.
     pub fn have(&self, address: u32) -> bool
         ensures { result ≡ have self.now address }
@@ -125,16 +164,26 @@ impl Devices {
     }
 
     /// Returns the device that has an address, with what is stored in the word there.
+    #[tactic(auto, using(crate::proofs::Positions::none_word))]
     pub(crate) fn word(&self, address: u32) -> Option<(&Device, u32)>
         ensures { option_map (λ w. record { device = w.0.now; stored = w.1 }) result ≡ word_at self.now address }
     {
-        'devices: for device in self.devices.as_slice() {
-            if device.device.has(address) {
-                let place = device.device.place(address);
-                return Some((&device.device, device.words[place]));
-            }
+        match self.position(address) {
+            Some(at) => Some(self.word_of(at, address)),
+            None => None,
         }
-        None
+    }
+
+    /// Returns the device of this number, which is the first that has an address, with what is stored in the word
+    /// there.
+    #[inline]
+    #[tactic(auto, using(crate::proofs::Positions::word_lemmas))]
+    fn word_of(&self, at: usize, address: u32) -> (&Device, u32)
+        requires { position_from 0 self.now address ≡ Some at }
+        ensures { word_at self.now address ≡ Some (record { device = result.0.now; stored = result.1 }) }
+    {
+        let words = &self.devices[at];
+        (&words.device, words.stored(address))
     }
 
     /// Returns the device that has an address, with what is stored in the word there after pokes of that tick.
@@ -169,7 +218,10 @@ impl Devices {
         match self.word_after(ticks, pokes, address) {
             Some((device, stored)) => {
                 let content = content_of(device, ticks, stored);
-                let followed = self.content_after(ticks, pokes, device.of.unwrap_or(address));
+                let followed = match device.of {
+                    Some(of) => self.content_after(ticks, pokes, of),
+                    None => content,
+                };
                 Some(value_of(device, content, followed))
             }
             None => None,
@@ -195,26 +247,70 @@ impl Devices {
     }
 
     /// Loads from an address, if a device has it, and then pokes what its load pokes.
+    #[tactic(auto, using(crate::proofs::Positions::none_word))]
     pub fn load(&mut self, ticks: u64, address: u32, size: Size) -> Option<u32>
         ensures value { result ≡ read_at self.old ticks address size }
         ensures small { IfSome result (λ value. value < 256 ^ bytes_in size) }
         ensures after { self.new ≡ loaded self.old ticks address }
     {
-        let poke = match self.word(address) {
-            Some((device, _)) => device.load_poke,
+        match self.position(address) {
+            Some(at) => Some(self.load_at(at, ticks, address, size)),
             None => None,
+        }
+    }
+
+    /// Loads from an address that the device of this number has, the first that has it, and then pokes what its load
+    /// pokes.
+    #[tactic(auto, using(crate::proofs::Positions::first_below))]
+    pub fn load_at(&mut self, at: usize, ticks: u64, address: u32, size: Size) -> u32
+        requires { position_from 0 self.old address ≡ Some at }
+        ensures value { read_at self.old ticks address size ≡ Some result }
+        ensures small { result < 256 ^ bytes_in size }
+        ensures after { self.new ≡ loaded self.old ticks address }
+    {
+        let (device, stored) = self.word_of(at, address);
+        let poke = device.load_poke;
+        let content = content_of(device, ticks, stored);
+        let followed = match device.of {
+            Some(of) => self.content_after(ticks, &NoPokes, of),
+            None => content,
         };
-        let value = self.read(ticks, address, size);
+        let value = value_of(device, content, followed);
+        self.keep_near(at, address);
         self.poke_by(ticks, poke);
-        value
+        part(address, size, value)
     }
 
     /// Stores to an address, if a device has it, and then pokes what its store pokes.
+    #[tactic(auto, using(crate::proofs::Positions::none_word))]
     pub fn store(&mut self, ticks: u64, address: u32, size: Size, value: u32) -> Option<Stored>
         ensures sent { option_map (λ s. s.sent) result ≡ sent_at self.old address value }
         ensures after { self.new ≡ after_store_at self.old ticks address size value }
     {
-        let (device, stored) = self.word(address)?;
+        match self.position(address) {
+            Some(at) => Some(Stored {
+                sent: self.store_at(at, ticks, address, size, value),
+            }),
+            None => None,
+        }
+    }
+
+    /// Stores to an address that the device of this number has, the first that has it, and then pokes what its store
+    /// pokes. Returns the byte that goes to the console, if one does.
+    #[tactic(auto, using(crate::proofs::Positions::first_below))]
+    pub fn store_at(
+        &mut self,
+        at: usize,
+        ticks: u64,
+        address: u32,
+        size: Size,
+        value: u32,
+    ) -> Option<u8>
+        requires { position_from 0 self.old address ≡ Some at }
+        ensures sent { sent_at self.old address value ≡ Some result }
+        ensures after { self.new ≡ after_store_at self.old ticks address size value }
+    {
+        let (device, stored) = self.word_of(at, address);
         let before = content_of(device, ticks, stored);
         let content = content_after(
             device,
@@ -224,9 +320,10 @@ impl Devices {
         );
         let store_poke = device.store_poke;
         let sent = sent(device, address, value);
-        self.put(ticks, address, content);
+        self.keep_near(at, address);
+        self.put_at(at, ticks, address, content);
         self.poke_by(ticks, store_poke);
-        Some(Stored { sent })
+        sent
     }
 
     /// Pokes words one after another, each where a device has it.
@@ -260,12 +357,45 @@ impl Devices {
         ensures { self.new ≡ poked self.old ticks address content }
     {
         if let Some(at) = self.position(address) {
-            self.devices[at].put(ticks, address, content);
+            self.put_at(at, ticks, address, content);
         }
     }
 
+    /// Gives the word at an address of the device of this number, the first that has it, a content.
+    #[inline]
+    #[tactic(auto, using(crate::proofs::Positions::position_lemmas))]
+    fn put_at(&mut self, at: usize, ticks: u64, address: u32, content: u32)
+        requires { position_from 0 self.old address ≡ Some at }
+        ensures { self.new ≡ poked self.old ticks address content }
+    {
+        self.devices[at].put(ticks, address, content);
+    }
+
     /// Returns the number of the first device that has an address.
-    fn position(&self, address: u32) -> Option<usize>
+    #[tactic(auto, using(crate::proofs::Separate::near_is_first))]
+    pub fn position(&self, address: u32) -> Option<usize>
+        ensures { result ≡ position_from 0 self.now address }
+    {
+        let near = usize::from(self.near[place_near(address)]);
+        if self.apart && near < self.devices.len() && self.devices[near].device.has(address) {
+            return Some(near);
+        }
+        self.search(address)
+    }
+
+    /// Notes where the device of an address is.
+    #[inline]
+    fn keep_near(&mut self, at: usize, address: u32)
+        requires { at < length self.old }
+        ensures { self.new ≡ self.old }
+    {
+        let place = place_near(address);
+        let near = &mut self.near;
+        near[place] = at as u8;
+    }
+
+    /// Returns the same, device by device.
+    fn search(&self, address: u32) -> Option<usize>
         ensures { result ≡ position_from 0 self.now address }
     {
         'devices: for (at, device) in self.devices.as_slice().iter().enumerate() {
@@ -275,6 +405,26 @@ impl Devices {
         }
         None
     }
+}
+
+/// Returns the place at which the device of an address is noted.
+#[inline]
+fn place_near(address: u32) -> usize
+    ensures { result < 64 }
+{
+    ((address / 4 ^ address / 1024) % 64) as usize
+}
+
+/// Returns whether one of some devices has a line.
+fn are_lined(devices: &[DeviceWords]) -> bool
+    ensures { result ≡ are_lined devices.now }
+{
+    'devices: for device in devices {
+        if device.device.line.is_some() {
+            return true;
+        }
+    }
+    false
 }
 
 /// Takes the words of the same devices.
@@ -319,6 +469,15 @@ impl DeviceWords {
         self.words
             .as_mut_slice()
             .copy_from_slice(other.words.as_slice());
+    }
+
+    /// Returns what is stored in the word at an address.
+    #[inline]
+    fn stored(&self, address: u32) -> u32
+        requires { has self.now.device address ≡ true }
+        ensures { result ≡ slice_index self.now.words (place self.now.device address) }
+    {
+        self.words[self.device.place(address)]
     }
 
     /// Gives the word at an address a content.

@@ -1,6 +1,7 @@
 //! Devices that a board describes (profile): words that read as, and keep, what the board says of them.
 #![tactic(auto)]
 
+mod apart;
 mod device;
 mod devices;
 pub mod laws;
@@ -11,7 +12,7 @@ mod pokes;
 mod table;
 mod word;
 
-pub use device::{Device, Line, MOST_DEVICES, Poke, Stores};
+pub use device::{Device, Line, MAX_DEVICES, Poke, Stores};
 pub use devices::{Devices, Stored};
 pub use instruction_set::size::Size;
 pub use level::Level;

@@ -5,7 +5,7 @@ ghost use Rattle.devices.specs.Devices.{value_at};
 ghost use Rattle.devices.specs.Lines.{drives, is_line_of, level_of, level_on, levels, levels_by};
 ghost use Rattle.devices.specs.Pokes.{poked_all};
 
-use crate::device::{Device, Line, MOST_DEVICES};
+use crate::device::{Device, Line, MAX_DEVICES};
 use crate::devices::Devices;
 use crate::level::Level;
 use crate::pokes::{NoPokes, Pokes};
@@ -25,7 +25,7 @@ impl Devices {
     }
 
     /// Returns the levels of all lines after this many ticks, in the order of the board.
-    pub fn levels(&self, ticks: u64) -> ArrayVec<Level, MOST_DEVICES>
+    pub fn levels(&self, ticks: u64) -> ArrayVec<Level, MAX_DEVICES>
         ensures { result.items ≡ levels self.now ticks }
     {
         self.levels_after(ticks, &NoPokes)
@@ -33,7 +33,7 @@ impl Devices {
 
     /// Returns the levels of all lines after this many ticks and pokes of the last of them, in the order of the board.
     #[tactic(auto, using(crate::proofs::Foreseen::levels_stay))]
-    pub fn levels_after<P: Pokes>(&self, ticks: u64, pokes: &P) -> ArrayVec<Level, MOST_DEVICES>
+    pub fn levels_after<P: Pokes>(&self, ticks: u64, pokes: &P) -> ArrayVec<Level, MAX_DEVICES>
         ensures { result.items ≡ levels (poked_all self.now ticks (P.pokes pokes.now)) ticks }
     {
         let mut levels = ArrayVec::new();

@@ -7,7 +7,7 @@ use arrayvec::ArrayVec;
 use std::marker::Model;
 
 /// How many segments an image has at most, and how many program headers a file.
-pub const MOST_SEGMENTS: usize = 64;
+pub const MAX_SEGMENTS: usize = 64;
 
 /// Bytes of the file that are at an address before the first step.
 #[derive(Clone, Copy)]
@@ -31,7 +31,7 @@ impl Default for Segment<'_> {
 /// The image in an ELF file: its segments, in the file's order. A contract sees the list of them.
 #[derive(Drop)]
 pub struct Image<'a> {
-    segments: ArrayVec<Segment<'a>, MOST_SEGMENTS>,
+    segments: ArrayVec<Segment<'a>, MAX_SEGMENTS>,
 }
 
 impl<'a> Model for Image<'a> {
@@ -63,7 +63,7 @@ impl<'a> Image<'a> {
     }
 
     // The image of these segments.
-    pub(crate) fn new(segments: ArrayVec<Segment<'a>, MOST_SEGMENTS>) -> Self
+    pub(crate) fn new(segments: ArrayVec<Segment<'a>, MAX_SEGMENTS>) -> Self
         ensures { result ≡ map segment_of segments.entry.items }
     {
         Image { segments }

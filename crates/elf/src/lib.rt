@@ -3,14 +3,14 @@
 #![tactic(auto)]
 
 ghost use Rattle.std.specs.Prelude.{◌≡◌, ◌≤◌, length, IfOk};
-ghost use Rattle.platform.specs.Images.{AreAllApart, has_magic, image_of, is_32_bit_little, table_of};
+ghost use Rattle.platform.specs.Images.{AreSegmentsApart, has_magic, image_of, is_32_bit_little, table_of};
 
 mod image;
 mod number;
 mod overlap;
 mod program_header;
 
-pub use image::{Image, MOST_SEGMENTS, Segment};
+pub use image::{Image, MAX_SEGMENTS, Segment};
 pub use number::{halfword, word};
 use overlap::have_overlap;
 pub use overlap::share_an_address;
@@ -59,7 +59,7 @@ pub const EM_ARM: u16 = 40;
 #[tactic(auto, unfolding(platform::specs::Images::image_of))]
 pub fn load(bytes: &[u8]) -> Result<Image<'_>, LoadError>
     ensures image { result ≡ image_of bytes.now }
-    ensures apart { IfOk result (λ image. AreAllApart image) }
+    ensures apart { IfOk result (λ image. AreSegmentsApart image) }
 {
     if bytes.len() < ELF_HEADER_SIZE {
         return Err(LoadError::Truncated);
@@ -100,10 +100,10 @@ fn is_32_bit_little(file: &[u8]) -> bool
 fn image_of_table(file: &[u8]) -> Result<Image<'_>, LoadError>
     requires { ELF_HEADER_SIZE ≤ length file.now }
     ensures image { result ≡ table_of file.now }
-    ensures apart { IfOk result (λ image. AreAllApart image) }
+    ensures apart { IfOk result (λ image. AreSegmentsApart image) }
 {
     let count = halfword(file, E_PHNUM) as usize;
-    if count > MOST_SEGMENTS {
+    if count > MAX_SEGMENTS {
         return Err(LoadError::TooManySegments);
     }
     if count == 0 {

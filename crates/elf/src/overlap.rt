@@ -2,7 +2,7 @@
 
 ghost use Rattle.std.specs.Prelude.{◌≡◌, ◌↔◌, false, map};
 ghost use Rattle.std.specs.List.{list_any};
-ghost use Rattle.platform.specs.Images.{AreAllApart, have_overlap, share_an_address, target_end};
+ghost use Rattle.platform.specs.Images.{AreSegmentsApart, have_overlap, share_an_address, target_end};
 ghost use Rattle.elf.specs.Segment.{segment_of};
 
 use crate::image::Segment;
@@ -11,7 +11,7 @@ use crate::image::Segment;
 // and all addresses.
 pub fn have_overlap(segments: &[Segment<'_>]) -> bool
     ensures test { result ≡ have_overlap (map segment_of segments.now) }
-    ensures apart { result ≡ false ↔ AreAllApart (map segment_of segments.now) }
+    ensures apart { result ≡ false ↔ AreSegmentsApart (map segment_of segments.now) }
 {
     let mut rest = segments;
     'segments: while let [segment, others @ ..] = rest {

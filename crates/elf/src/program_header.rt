@@ -4,7 +4,7 @@ ghost use Rattle.std.specs.Prelude.{◌≡◌, ◌+◌, ◌*◌, ◌≤◌, leng
 ghost use Rattle.platform.specs.Images.{is_segment, segments_of};
 ghost use Rattle.elf.specs.Segment.{Gives, segment_in, segment_of};
 
-use crate::image::{Image, MOST_SEGMENTS, Segment};
+use crate::image::{Image, MAX_SEGMENTS, Segment};
 use crate::number::word;
 use arrayvec::ArrayVec;
 use platform::error::LoadError;
@@ -27,7 +27,7 @@ const PT_LOAD: u32 = 1;
 
 // The segments of `count` program headers from `table` on.
 pub fn image_of_headers(file: &[u8], table: usize, count: usize) -> Result<Image<'_>, LoadError>
-    requires few { count ≤ MOST_SEGMENTS }
+    requires few { count ≤ MAX_SEGMENTS }
     requires within { table + PROGRAM_HEADER_SIZE * count ≤ length file.now }
     ensures { result ≡ segments_of file.now table count }
 {

@@ -1,12 +1,12 @@
 //! What a row says: an instruction, or the cause for which it is UNPREDICTABLE.
 
 ghost use Rattle.std.specs.Prelude.{◌≡◌, ◌==◌};
-ghost use Rattle.instruction_set.specs.declared.instruction.BlockPlace.TheVariants.{Anywhere};
+ghost use Rattle.instruction_set.specs.declared.instruction.ItPosition.TheVariants.{Anywhere};
 ghost use Rattle.instruction_set.specs.declared.unpredictable.UnpredictableCase.TheVariants.{Registers};
 ghost use Rattle.instruction_set.specs.Rows.{as_printed, short, long, placed, last_only_if, unless, is_bad};
 
 use instruction_set::instruction::{
-    BlockPlace, CodedInstruction, Decoded, Instruction, InstructionLength,
+    CodedInstruction, Decoded, Instruction, InstructionLength, ItPosition,
 };
 use instruction_set::registers::Register;
 use instruction_set::unpredictable::UnpredictableCase;
@@ -16,7 +16,7 @@ use instruction_set::unpredictable::UnpredictableCase;
 pub fn short(instruction: Instruction) -> Decoded
     ensures { result ≡ short instruction }
 {
-    placed(InstructionLength::Short, BlockPlace::Anywhere, instruction)
+    placed(InstructionLength::Short, ItPosition::Anywhere, instruction)
 }
 
 /// Returns an instruction of two halfwords at any position in an IT block.
@@ -24,7 +24,7 @@ pub fn short(instruction: Instruction) -> Decoded
 pub fn long(instruction: Instruction) -> Decoded
     ensures { result ≡ long instruction }
 {
-    placed(InstructionLength::Long, BlockPlace::Anywhere, instruction)
+    placed(InstructionLength::Long, ItPosition::Anywhere, instruction)
 }
 
 /// Returns whether a register is SP or PC: `BadReg()`.
@@ -37,7 +37,7 @@ pub fn is_bad(register: Register) -> bool
 
 /// Returns an instruction with the length of its encoding and its position in an IT block.
 #[inline]
-pub fn placed(length: InstructionLength, place: BlockPlace, instruction: Instruction) -> Decoded
+pub fn placed(length: InstructionLength, place: ItPosition, instruction: Instruction) -> Decoded
     ensures { result ≡ placed length place instruction }
 {
     Decoded::Instr(CodedInstruction {
@@ -49,13 +49,13 @@ pub fn placed(length: InstructionLength, place: BlockPlace, instruction: Instruc
 
 /// Returns where in an IT block an instruction may be: only last if it writes the PC.
 #[inline]
-pub fn last_only_if(writes_pc: bool) -> BlockPlace
+pub fn last_only_if(writes_pc: bool) -> ItPosition
     ensures { result ≡ last_only_if writes_pc }
 {
     if writes_pc {
-        BlockPlace::LastOnly
+        ItPosition::LastOnly
     } else {
-        BlockPlace::Anywhere
+        ItPosition::Anywhere
     }
 }
 
@@ -63,7 +63,7 @@ pub fn last_only_if(writes_pc: bool) -> BlockPlace
 #[inline]
 pub fn unless(
     refused: bool,
-    place: BlockPlace,
+    place: ItPosition,
     cause: UnpredictableCase,
     decoded: Decoded,
 ) -> Decoded
@@ -83,7 +83,7 @@ pub fn unless_refused(refused: bool, decoded: Decoded) -> Decoded
 {
     unless(
         refused,
-        BlockPlace::Anywhere,
+        ItPosition::Anywhere,
         UnpredictableCase::Registers,
         decoded,
     )
@@ -104,7 +104,7 @@ pub fn long_unless(refused: bool, instruction: Instruction) -> Decoded
 pub fn placed_unless(
     refused: bool,
     length: InstructionLength,
-    place: BlockPlace,
+    place: ItPosition,
     instruction: Instruction,
 ) -> Decoded
     ensures { result ≡ unless refused place Registers (placed length place instruction) }
@@ -125,6 +125,6 @@ pub fn as_printed(printed: bool, decoded: Decoded) -> Decoded
     if printed {
         decoded
     } else {
-        Decoded::Unpredictable(BlockPlace::Anywhere, UnpredictableCase::Encoding)
+        Decoded::Unpredictable(ItPosition::Anywhere, UnpredictableCase::Encoding)
     }
 }

@@ -1,3 +1,3 @@
 pub mod Fetching
 pub mod LineBounds
-pub mod Serving
+pub mod Performing

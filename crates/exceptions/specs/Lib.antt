@@ -1,2 +1,2 @@
 pub mod LineBounds
-pub mod Serving
+pub mod Performing

@@ -9,9 +9,9 @@ ghost use Rattle.platform.specs.declared.event.EventKind.TheVariants.{ConsoleByt
 ghost use Rattle.platform.specs.Outcomes.{IsOf};
 ghost use Rattle.trace.specs.Emission.{with_emitted};
 
-use access::{Bus, Decider, DueTicks, KeptCode, Levels};
+use access::{Bus, Decider, Exceptions, KeptCode, SysTickState};
 use platform::access::{Cause, DecidedAccess, DoneAccess, Performed, Request, Rule};
-use platform::event::{Event, EventKind, MOST_EVENTS};
+use platform::event::{Event, EventKind, MAX_EVENTS};
 use reference::failure::Failure;
 use trace::sink::Sink;
 
@@ -19,14 +19,14 @@ use trace::sink::Sink;
 /// of an access that never comes here in the host's registers.
 #[cold]
 #[inline(never)]
-pub fn access_whole<D: Decider, C: KeptCode, L: Levels, U: DueTicks, S: Sink>(
+pub fn access_uncached<D: Decider, C: KeptCode, L: Exceptions, U: SysTickState, S: Sink>(
     exception: u16,
     bus: &mut Bus<D, C, L, U>,
     tick: u64,
     events: &mut S,
     request: Request,
 ) -> Result<u32, Failure>
-    requires { length (S.emitted events.old).events + lines_of request ≤ MOST_EVENTS }
+    requires { length (S.emitted events.old).events + lines_of request ≤ MAX_EVENTS }
     ensures bus { bus.new ≡ (perform exception bus.old request).after }
     ensures events { S.emitted events.new
         ≡ with_emitted (S.emitted events.old)
@@ -51,7 +51,7 @@ pub fn access_whole<D: Decider, C: KeptCode, L: Levels, U: DueTicks, S: Sink>(
 /// Appends the lines of an access that was done.
 #[inline(always)]
 fn put_done<S: Sink>(events: &mut S, tick: u64, request: &Request, done: &DoneAccess)
-    requires room { length (S.emitted events.old).events + lines_of request.now ≤ MOST_EVENTS }
+    requires room { length (S.emitted events.old).events + lines_of request.now ≤ MAX_EVENTS }
     requires of_request { IsOf request.now (Done done.now) }
     ensures events { S.emitted events.new
         ≡ with_emitted (S.emitted events.old)

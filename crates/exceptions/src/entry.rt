@@ -2,17 +2,17 @@
 
 ghost use Rattle.std.specs.Prelude.{◌≡◌, ◌<◌, ◌≤◌, [], length};
 ghost use Rattle.instruction_set.specs.declared.size.Size.TheVariants.{Word};
-ghost use Rattle.exceptions.specs.Serving.{GoesOnTo, StepsTo};
+ghost use Rattle.exceptions.specs.Performing.{ContinuesWith, StepsTo};
 ghost use Rattle.reference.specs.LoadStore.{request};
 ghost use Rattle.reference.specs.ExceptionEntry as spec;
 ghost use Rattle.reference.specs.ExceptionEntry.{handler_entered, vector_refused, exception_taken, begin_entry};
 
 use crate::faults::vector_fault;
 use crate::state::Core;
-use access::{Decider, DueTicks, KeptCode, Levels};
+use access::{Decider, Exceptions, KeptCode, SysTickState};
 use instruction_set::size::Size;
 use platform::access::{Access, Kind, Request};
-use platform::event::{Event, EventKind, MOST_EVENTS};
+use platform::event::{Event, EventKind, MAX_EVENTS};
 use platform::exception::{HARD_FAULT, NMI};
 use reference::accesses::{Requests, Values};
 use reference::failure::Failure;
@@ -62,7 +62,7 @@ fn pushes(regs: &Regs) -> Requests
     )
 }
 
-impl<D: Decider, C: KeptCode, L: Levels, U: DueTicks> Core<D, C, L, U> {
+impl<D: Decider, C: KeptCode, L: Exceptions, U: SysTickState> Core<D, C, L, U> {
     /// Pushes the frame: a Stack step.
     #[tactic(auto, using(crate::proofs::LineBounds::pushed), unfolding(reference::specs::ExceptionEntry::begin_entry))]
     pub fn begin_entry<S: Sink>(&mut self, events: &mut S)
@@ -129,9 +129,9 @@ impl<D: Decider, C: KeptCode, L: Levels, U: DueTicks> Core<D, C, L, U> {
         exception: u16,
         vector: u32,
     )
-        requires room { length (S.emitted events.old).events < MOST_EVENTS }
+        requires room { length (S.emitted events.old).events < MAX_EVENTS }
         requires small { exception < 256 }
-        ensures { GoesOnTo S.emitted events.old events.new self.new
+        ensures { ContinuesWith S.emitted events.old events.new self.new
             (λ es. handler_entered self.old es exception exc_return vector) }
     {
         events.emit(Event {
@@ -147,8 +147,8 @@ impl<D: Decider, C: KeptCode, L: Levels, U: DueTicks> Core<D, C, L, U> {
     /// Makes HardFault pending where the read of a vector is refused; for NMI and HardFault it is
     /// lockup.
     fn refuse_vector<S: Sink>(&mut self, events: &mut S, exception: u16)
-        requires { length (S.emitted events.old).events < MOST_EVENTS }
-        ensures { GoesOnTo S.emitted events.old events.new self.new (λ es. vector_refused self.old es exception) }
+        requires { length (S.emitted events.old).events < MAX_EVENTS }
+        ensures { ContinuesWith S.emitted events.old events.new self.new (λ es. vector_refused self.old es exception) }
     {
         self.record(vector_fault());
         if exception == NMI || exception == HARD_FAULT {

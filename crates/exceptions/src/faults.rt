@@ -1,15 +1,15 @@
 //! What faults set and pend (ARM DDI 0403, "Fault behavior" and "Priority escalation"), and SVC.
 
 ghost use Rattle.std.specs.Prelude.{◌≡◌, ◌<◌, ◌++◌, ◌∷◌, [], length};
-ghost use Rattle.exceptions.specs.Serving.{GoesOnTo};
+ghost use Rattle.exceptions.specs.Performing.{ContinuesWith};
 ghost use Rattle.reference.specs.Faults as spec;
 ghost use Rattle.reference.specs.Faults.{access_fault, recorded, pended_by_fault, forced, locked_up, escalated};
 ghost use Rattle.reference.specs.Faults.{faulted, failed, supervisor_called};
 
 use crate::state::Core;
-use access::{Decider, DueTicks, KeptCode, Levels};
+use access::{Decider, Exceptions, KeptCode, SysTickState};
 use platform::access::{Access, Cause, Kind};
-use platform::event::{Event, EventKind, MOST_EVENTS, RecordedFault};
+use platform::event::{Event, EventKind, MAX_EVENTS, RecordedFault};
 use platform::exception::{BUS_FAULT, Escalation, HARD_FAULT, MEM_MANAGE, SV_CALL, USAGE_FAULT};
 use platform::fault_status::{
     BFARVALID, DACCVIOL, DIVBYZERO, FORCED, FaultAddress, FaultEffect, IACCVIOL, IBUSERR, INVPC,
@@ -23,7 +23,6 @@ use trace::sink::Sink;
 /// The length of SVC in bytes.
 const SVC_LENGTH: u32 = 2;
 
-/// Returns a fault of MemManage.
 fn mem_manage(bits: u32, address: FaultAddress) -> FaultEffect
     ensures { result ≡ spec.mem_manage bits address }
 {
@@ -35,7 +34,6 @@ fn mem_manage(bits: u32, address: FaultAddress) -> FaultEffect
     }
 }
 
-/// Returns a fault of BusFault.
 fn bus_fault(bits: u32, address: FaultAddress) -> FaultEffect
     ensures { result ≡ spec.bus_fault bits address }
 {
@@ -47,7 +45,6 @@ fn bus_fault(bits: u32, address: FaultAddress) -> FaultEffect
     }
 }
 
-/// Returns a fault of UsageFault.
 fn usage_fault(bit: u32) -> FaultEffect
     ensures { result ≡ spec.usage_fault bit }
 {
@@ -107,7 +104,7 @@ pub fn usage_fault_of(fault: UsageFault) -> FaultEffect
     })
 }
 
-impl<D: Decider, C: KeptCode, L: Levels, U: DueTicks> Core<D, C, L, U> {
+impl<D: Decider, C: KeptCode, L: Exceptions, U: SysTickState> Core<D, C, L, U> {
     /// Sets the bits and the address of a fault.
     pub fn record(&mut self, fault: FaultEffect)
         ensures { self.new ≡ recorded self.old fault }
@@ -137,8 +134,8 @@ impl<D: Decider, C: KeptCode, L: Levels, U: DueTicks> Core<D, C, L, U> {
 
     /// Makes an exception pending by a fault.
     pub fn pend_by_fault<S: Sink>(&mut self, events: &mut S, exception: u16)
-        requires { length (S.emitted events.old).events < MOST_EVENTS }
-        ensures { GoesOnTo S.emitted events.old events.new self.new (λ es. pended_by_fault self.old es exception) }
+        requires { length (S.emitted events.old).events < MAX_EVENTS }
+        ensures { ContinuesWith S.emitted events.old events.new self.new (λ es. pended_by_fault self.old es exception) }
     {
         events.emit(self.fault_line(exception));
         self.bus.system.pend(exception);
@@ -146,8 +143,8 @@ impl<D: Decider, C: KeptCode, L: Levels, U: DueTicks> Core<D, C, L, U> {
 
     /// Makes HardFault pending in place of a fault that can't be taken.
     fn force<S: Sink>(&mut self, events: &mut S)
-        requires { length (S.emitted events.old).events < MOST_EVENTS }
-        ensures { GoesOnTo S.emitted events.old events.new self.new (forced self.old) }
+        requires { length (S.emitted events.old).events < MAX_EVENTS }
+        ensures { ContinuesWith S.emitted events.old events.new self.new (forced self.old) }
     {
         self.bus.system.set_fault_bits(0, FORCED);
         self.pend_by_fault(events, HARD_FAULT);
@@ -155,8 +152,8 @@ impl<D: Decider, C: KeptCode, L: Levels, U: DueTicks> Core<D, C, L, U> {
 
     /// Stops the core by lockup.
     pub fn lock_up<S: Sink>(&mut self, events: &mut S)
-        requires { length (S.emitted events.old).events < MOST_EVENTS }
-        ensures { GoesOnTo S.emitted events.old events.new self.new (locked_up self.old) }
+        requires { length (S.emitted events.old).events < MAX_EVENTS }
+        ensures { ContinuesWith S.emitted events.old events.new self.new (locked_up self.old) }
     {
         events.emit(self.fault_line(0));
         self.end(Stop::Lockup);
@@ -166,8 +163,8 @@ impl<D: Decider, C: KeptCode, L: Levels, U: DueTicks> Core<D, C, L, U> {
     /// priority.
     #[tactic(auto, unfolding(reference::specs::Faults::faulted))]
     pub fn raise<S: Sink>(&mut self, events: &mut S, fault: FaultEffect)
-        requires { length (S.emitted events.old).events < MOST_EVENTS }
-        ensures { GoesOnTo S.emitted events.old events.new self.new (λ es. faulted self.old es fault) }
+        requires { length (S.emitted events.old).events < MAX_EVENTS }
+        ensures { ContinuesWith S.emitted events.old events.new self.new (λ es. faulted self.old es fault) }
     {
         self.record(fault);
         match self.escalation(fault.exception) {
@@ -181,8 +178,8 @@ impl<D: Decider, C: KeptCode, L: Levels, U: DueTicks> Core<D, C, L, U> {
     #[cold]
     #[inline(never)]
     pub fn fail<S: Sink>(&mut self, events: &mut S, failure: Failure)
-        requires { length (S.emitted events.old).events < MOST_EVENTS }
-        ensures { GoesOnTo S.emitted events.old events.new self.new (λ es. failed self.old es failure) }
+        requires { length (S.emitted events.old).events < MAX_EVENTS }
+        ensures { ContinuesWith S.emitted events.old events.new self.new (λ es. failed self.old es failure) }
     {
         match failure {
             Failure::Refused(access, cause) => self.raise(events, fault_of(&access, cause)),
@@ -194,13 +191,13 @@ impl<D: Decider, C: KeptCode, L: Levels, U: DueTicks> Core<D, C, L, U> {
     /// Calls the supervisor as SVC does.
     #[tactic(auto, unfolding(reference::specs::Faults::supervisor_called))]
     pub fn call_supervisor<S: Sink>(&mut self, events: &mut S)
-        requires { length (S.emitted events.old).events < MOST_EVENTS }
-        ensures { GoesOnTo S.emitted events.old events.new self.new (supervisor_called self.old) }
+        requires { length (S.emitted events.old).events < MAX_EVENTS }
+        ensures { ContinuesWith S.emitted events.old events.new self.new (supervisor_called self.old) }
     {
         match self.escalation(SV_CALL) {
             Escalation::Itself => {
                 self.regs.it_advance();
-                self.regs.go_on(SVC_LENGTH);
+                self.regs.advance_pc(SVC_LENGTH);
                 self.bus.system.pend(SV_CALL);
             }
             Escalation::HardFault => self.force(events),

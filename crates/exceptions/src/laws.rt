@@ -5,7 +5,7 @@
 ghost use Rattle.std.specs.Prelude.{◌≡◌, ◌^◌, ◌+◌};
 
 use platform::exception::{
-    BUS_FAULT, EXCEPTIONS, FIRST_INTERRUPT, HARD_FAULT, MEM_MANAGE, MOST_INTERRUPTS, NMI, PEND_SV,
+    BUS_FAULT, EXCEPTIONS, FIRST_INTERRUPT, HARD_FAULT, MAX_INTERRUPTS, MEM_MANAGE, NMI, PEND_SV,
     SV_CALL, SYS_TICK, USAGE_FAULT,
 };
 use platform::fault_status::{
@@ -17,8 +17,8 @@ use platform::fault_status::{
 pub fn exceptions_have_their_numbers()
     ensures faults { (NMI ≡ 2) × (HARD_FAULT ≡ 3) × (MEM_MANAGE ≡ 4) × (BUS_FAULT ≡ 5) × (USAGE_FAULT ≡ 6) }
     ensures calls { (SV_CALL ≡ 11) × (PEND_SV ≡ 14) × (SYS_TICK ≡ 15) }
-    ensures lines { (FIRST_INTERRUPT ≡ 16) × (MOST_INTERRUPTS ≡ 240)
-        × (EXCEPTIONS ≡ FIRST_INTERRUPT + MOST_INTERRUPTS) }
+    ensures lines { (FIRST_INTERRUPT ≡ 16) × (MAX_INTERRUPTS ≡ 240)
+        × (EXCEPTIONS ≡ FIRST_INTERRUPT + MAX_INTERRUPTS) }
 {}
 
 /// The bits of MMFSR, BFSR and UFSR in CFSR, and those of HFSR.

@@ -9,7 +9,7 @@ pub mod laws;
 mod returning;
 mod state;
 
-pub use access::{Bus, Decider, DueTicks, Levels};
+pub use access::{Bus, Decider, Exceptions, SysTickState};
 pub use accesses::accessed;
 pub use faults::{fault_of, usage_fault_of};
 pub use reference::accesses::Values;

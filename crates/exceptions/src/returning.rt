@@ -2,7 +2,7 @@
 
 ghost use Rattle.std.specs.Prelude.{◌≡◌, ◌+◌, ◌<◌, ◌≤◌, length};
 ghost use Rattle.instruction_set.specs.Frames as frames;
-ghost use Rattle.exceptions.specs.Serving.{GoesOnTo};
+ghost use Rattle.exceptions.specs.Performing.{ContinuesWith};
 ghost use Rattle.reference.specs.declared.failure.Failure.TheVariants.{Usage};
 ghost use Rattle.reference.specs.declared.failure.UsageFault.TheVariants.{InvalidReturn};
 ghost use Rattle.reference.specs.ExceptionReturn as spec;
@@ -15,10 +15,10 @@ ghost use Rattle.reference.specs.State.{with_system};
 
 use crate::entry::words_from;
 use crate::state::Core;
-use access::{Decider, DueTicks, KeptCode, Levels};
+use access::{Decider, Exceptions, KeptCode, SysTickState};
 use instruction_set::unpredictable::UnpredictableCase;
 use platform::access::Kind;
-use platform::event::{Event, EventKind, MOST_EVENTS};
+use platform::event::{Event, EventKind, MAX_EVENTS};
 use platform::exception::NMI;
 use platform::stop::Stop;
 use reference::accesses::{Requests, Values};
@@ -80,12 +80,13 @@ fn pops(regs: &Regs, exc_return: u32) -> Requests
     )
 }
 
-impl<D: Decider, C: KeptCode, L: Levels, U: DueTicks> Core<D, C, L, U> {
+impl<D: Decider, C: KeptCode, L: Exceptions, U: SysTickState> Core<D, C, L, U> {
     /// Returns from an exception.
     #[tactic(auto, unfolding(reference::specs::ExceptionReturn::exception_return))]
     pub fn return_from<S: Sink>(&mut self, events: &mut S, exc_return: u32)
-        requires { length (S.emitted events.old).events + 10 ≤ MOST_EVENTS }
-        ensures { GoesOnTo S.emitted events.old events.new self.new (λ es. exception_return self.old es exc_return) }
+        requires { length (S.emitted events.old).events + 10 ≤ MAX_EVENTS }
+        ensures { ContinuesWith S.emitted events.old events.new self.new
+            (λ es. exception_return self.old es exc_return) }
     {
         events.emit(Event {
             tick: self.bus.system.ticks(),
@@ -110,12 +111,12 @@ impl<D: Decider, C: KeptCode, L: Levels, U: DueTicks> Core<D, C, L, U> {
     fn is_allowed(&self, exc_return: u32) -> bool
         ensures { result ≡ spec.is_allowed self.now exc_return }
     {
-        let levels = self.bus.system.levels();
+        let exceptions = self.bus.system.exceptions();
         let exception = self.regs.exception();
-        levels.is_active(exception)
+        exceptions.is_active(exception)
             && (returns_to_handler(exc_return)
                 || returns_to_thread(exc_return)
-                    && (!levels.is_other_active(exception)
+                    && (!exceptions.is_other_active(exception)
                         || self.bus.system.status().nonbasethrdena()))
     }
 
@@ -132,8 +133,8 @@ impl<D: Decider, C: KeptCode, L: Levels, U: DueTicks> Core<D, C, L, U> {
 
     /// Begins the entry of the next exception, if there is one, or pops the frame.
     fn chain<S: Sink>(&mut self, events: &mut S, exc_return: u32)
-        requires { length (S.emitted events.old).events + 9 ≤ MOST_EVENTS }
-        ensures { GoesOnTo S.emitted events.old events.new self.new
+        requires { length (S.emitted events.old).events + 9 ≤ MAX_EVENTS }
+        ensures { ContinuesWith S.emitted events.old events.new self.new
             (λ es. chained self.old es exc_return (candidate self.old.bus.system.nvic)) }
     {
         if self.candidate().is_some() {
@@ -145,8 +146,8 @@ impl<D: Decider, C: KeptCode, L: Levels, U: DueTicks> Core<D, C, L, U> {
 
     /// Raises the fault of a return that isn't allowed, and begins an entry.
     fn refuse_return<S: Sink>(&mut self, events: &mut S, exc_return: u32)
-        requires { length (S.emitted events.old).events < MOST_EVENTS }
-        ensures { GoesOnTo S.emitted events.old events.new self.new
+        requires { length (S.emitted events.old).events < MAX_EVENTS }
+        ensures { ContinuesWith S.emitted events.old events.new self.new
             (λ es. failed (with_entry self.old exc_return) es (Usage InvalidReturn)) }
     {
         self.entry = Some(exc_return);
@@ -156,8 +157,8 @@ impl<D: Decider, C: KeptCode, L: Levels, U: DueTicks> Core<D, C, L, U> {
     /// Pops the frame.
     #[tactic(auto, using(crate::proofs::LineBounds::popped), unfolding(reference::specs::ExceptionReturn::pop_stack))]
     fn pop_stack<S: Sink>(&mut self, events: &mut S, exc_return: u32)
-        requires { length (S.emitted events.old).events + 9 ≤ MOST_EVENTS }
-        ensures { GoesOnTo S.emitted events.old events.new self.new (λ es. pop_stack self.old es exc_return) }
+        requires { length (S.emitted events.old).events + 9 ≤ MAX_EVENTS }
+        ensures { ContinuesWith S.emitted events.old events.new self.new (λ es. pop_stack self.old es exc_return) }
     {
         let requests = pops(&self.regs, exc_return);
         let mut values = Values::new();
@@ -174,9 +175,10 @@ impl<D: Decider, C: KeptCode, L: Levels, U: DueTicks> Core<D, C, L, U> {
     /// Takes the registers from the frame, once it's checked.
     #[tactic(auto, unfolding(reference::specs::ExceptionReturn::unstacked))]
     fn unstack<S: Sink>(&mut self, events: &mut S, exc_return: u32, frame: &[u32])
-        requires room { length (S.emitted events.old).events < MOST_EVENTS }
+        requires room { length (S.emitted events.old).events < MAX_EVENTS }
         requires words { length frame.now ≡ 8 }
-        ensures { GoesOnTo S.emitted events.old events.new self.new (λ es. unstacked self.old es exc_return frame.now) }
+        ensures { ContinuesWith S.emitted events.old events.new self.new
+            (λ es. unstacked self.old es exc_return frame.now) }
     {
         if !fits_mode(exc_return, frame) {
             self.refuse_return(events, exc_return);

@@ -8,7 +8,7 @@ ghost use Rattle.reference.specs.Branches.{table_branch, begun, if_then};
 ghost use Rattle.reference.specs.ProgramCounter.{branches_by};
 
 use crate::load_store::{joined, transfer};
-use crate::program_counter::{branch_by, branched, exchange, move_on};
+use crate::program_counter::{advance, branch_by, branched, exchange};
 use instruction_set::branch::{
     Branch, BranchExchange, CompareAndBranch, ConditionalBranch, IfThen, TableBranch,
 };
@@ -28,7 +28,7 @@ const LR: u8 = 14;
 /// Appends the accesses of a branch: the entry of the table for TBB and TBH.
 #[inline]
 #[tactic(auto, unfolding(reference::specs::Branches::branch_requests))]
-pub fn wants(
+pub fn plan(
     branch: &Branch,
     regs: &Regs,
     traps: Traps,
@@ -87,7 +87,7 @@ fn conditional_branch(
     if regs.condition(operands.condition) {
         return branch_by(regs, operands.offset);
     }
-    move_on(regs, length)
+    advance(regs, length)
 }
 
 /// Writes the address of the next instruction to LR, with bit 0 set.
@@ -143,7 +143,7 @@ fn compare_and_branch(
     if takes_branch(operands, regs) {
         return branch_by(regs, operands.offset);
     }
-    move_on(regs, length)
+    advance(regs, length)
 }
 
 /// Returns the address of an entry of a table.
@@ -179,6 +179,6 @@ fn if_then(regs: &mut Regs, length: InstructionLength, operands: &IfThen) -> End
     ensures { finished_as regs.new result ≡ if_then length operands.now regs.old }
 {
     regs.set_it_state(begun(operands));
-    regs.go_on(length.bytes());
+    regs.advance_pc(length.bytes());
     Ending::Next
 }

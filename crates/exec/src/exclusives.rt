@@ -7,16 +7,16 @@ ghost use Rattle.instruction_set.specs.Registers.{with_register};
 ghost use Rattle.reference.specs.Exclusives.{exclusive_requests, exclusive_effect, exclusive_access, exclusive_address};
 ghost use Rattle.reference.specs.Exclusives.{store_requests, store_status, passes};
 ghost use Rattle.reference.specs.LoadStore.{joined};
-ghost use Rattle.reference.specs.ProgramCounter.{moves_on};
+ghost use Rattle.reference.specs.ProgramCounter.{advances};
 
 use crate::load_store::joined;
-use crate::program_counter::move_on;
+use crate::program_counter::advance;
 use instruction_set::instruction::InstructionLength;
 use instruction_set::load_store::{Exclusive, LoadExclusive, StoreExclusive};
 use instruction_set::registers::Register;
 use platform::access::{Access, Kind, Request};
 use platform::map::has_side_effects;
-use platform::stop::{LeftOut, Stop};
+use platform::stop::{Stop, Unsupported};
 use reference::accesses::Requests;
 use reference::ending::Ending;
 use reference::failure::{Failure, UsageFault};
@@ -26,7 +26,7 @@ use regs::Regs;
 
 /// Appends the access of an exclusive. `devices` says whether the board describes devices.
 #[tactic(auto, unfolding(reference::specs::Exclusives::exclusive_requests))]
-pub fn wants(
+pub fn plan(
     instruction: &Exclusive,
     regs: &Regs,
     devices: bool,
@@ -65,7 +65,7 @@ pub fn finish(
         Exclusive::Store(operands) => finish_store(operands, regs),
         Exclusive::Clear => regs.clear_mark(),
     }
-    move_on(regs, length)
+    advance(regs, length)
 }
 
 // ---- each instruction
@@ -144,7 +144,7 @@ fn ask(access: Access, value: u32, devices: bool, requests: &mut Requests) -> Re
         return Err(Failure::Usage(UsageFault::Unaligned));
     }
     if has_side_effects(devices, access.address) {
-        return Err(Failure::Stop(Stop::OutOfProfile(LeftOut::ExclusiveDevice)));
+        return Err(Failure::Stop(Stop::OutOfProfile(Unsupported::ExclusiveDevice)));
     }
     requests.push(Request { access, value });
     Ok(())

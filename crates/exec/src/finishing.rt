@@ -5,7 +5,7 @@ ghost use Rattle.exec.specs.Plans.{finished_as};
 ghost use Rattle.reference.specs.Operations.{result_of, effect};
 
 use crate::planning::is_carried_out;
-use crate::program_counter::move_on;
+use crate::program_counter::advance;
 use crate::{branches, exclusives, load_store, load_store_multiple, processing, system};
 use instruction_set::instruction::{CodedInstruction, Instruction, InstructionLength};
 use reference::ending::Ending;
@@ -21,7 +21,7 @@ pub fn finish(coded: &CodedInstruction, regs: &mut Regs, values: &[u32]) -> Endi
     if is_carried_out(&coded.instruction, regs) {
         return finish_family(coded.length, &coded.instruction, regs, values);
     }
-    move_on(regs, coded.length)
+    advance(regs, coded.length)
 }
 
 /// Carries out an instruction, whose encoding has this length and whose condition holds.

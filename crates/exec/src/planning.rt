@@ -3,12 +3,12 @@
 
 ghost use Rattle.std.specs.Prelude.{◌≡◌, ◌≤◌, ◌&&◌, [], length, not};
 ghost use Rattle.exec.specs.Plans.{planned};
-ghost use Rattle.reference.specs.Operations.{wants, requests_of, is_misplaced, is_carried_out, is_unconditional};
+ghost use Rattle.reference.specs.Operations.{plan, requests_of, is_misplaced, is_carried_out, is_unconditional};
 
 use crate::{branches, exclusives, load_store, load_store_multiple, processing, system};
-use instruction_set::instruction::{BlockPlace, CodedInstruction, Instruction};
+use instruction_set::instruction::{CodedInstruction, Instruction, ItPosition};
 use instruction_set::unpredictable::UnpredictableCase;
-use platform::access::MOST_REQUESTS;
+use platform::access::MAX_REQUESTS;
 use platform::stop::Stop;
 use reference::accesses::Requests;
 use reference::failure::{Failure, Traps};
@@ -17,15 +17,15 @@ use regs::Regs;
 /// Fills `requests` with the accesses of an instruction, unless it faults or stops. Where its
 /// condition fails it has none.
 #[inline]
-#[tactic(auto, unfolding(reference::specs::Operations::wants))]
-pub fn wants(
+#[tactic(auto, unfolding(reference::specs::Operations::plan))]
+pub fn plan(
     coded: &CodedInstruction,
     regs: &Regs,
     traps: Traps,
     requests: &mut Requests,
 ) -> Result<(), Failure>
-    ensures answer { planned requests.new result ≡ wants traps coded.now regs.now }
-    ensures few { length requests.new.items ≤ MOST_REQUESTS }
+    ensures answer { planned requests.new result ≡ plan traps coded.now regs.now }
+    ensures few { length requests.new.items ≤ MAX_REQUESTS }
 {
     requests.clear();
     if is_misplaced(coded.place, regs) {
@@ -35,7 +35,7 @@ pub fn wants(
         return Ok(());
     }
     let asked = plan_family(&coded.instruction, regs, traps, requests);
-    prove!(requests.len() <= MOST_REQUESTS);
+    prove!(requests.len() <= MAX_REQUESTS);
     asked
 }
 
@@ -52,19 +52,19 @@ fn plan_family(
     ensures { planned requests.new result ≡ requests_of traps instruction.now regs.now }
 {
     match instruction {
-        Instruction::DataProcessing(i) => processing::wants(i, regs, traps, requests),
-        Instruction::LoadStore(i) => load_store::wants(i, regs, traps, requests),
-        Instruction::LoadStoreMultiple(i) => load_store_multiple::wants(i, regs, requests),
-        Instruction::Exclusive(i) => exclusives::wants(i, regs, traps.devices, requests),
-        Instruction::Branch(i) => branches::wants(i, regs, traps, requests),
-        Instruction::System(i) => system::wants(i, requests),
+        Instruction::DataProcessing(i) => processing::plan(i, regs, traps, requests),
+        Instruction::LoadStore(i) => load_store::plan(i, regs, traps, requests),
+        Instruction::LoadStoreMultiple(i) => load_store_multiple::plan(i, regs, requests),
+        Instruction::Exclusive(i) => exclusives::plan(i, regs, traps.devices, requests),
+        Instruction::Branch(i) => branches::plan(i, regs, traps, requests),
+        Instruction::System(i) => system::plan(i, requests),
     }
 }
 
 /// Returns whether an instruction is allowed at its position in an IT block and its condition
 /// holds.
 #[inline(always)]
-pub fn goes_ahead(coded: &CodedInstruction, regs: &Regs) -> bool
+pub fn is_executed(coded: &CodedInstruction, regs: &Regs) -> bool
     ensures { result ≡ (not
         (is_misplaced coded.now.place regs.now.it_state) && is_carried_out coded.now.instruction regs.now) }
 {
@@ -73,13 +73,13 @@ pub fn goes_ahead(coded: &CodedInstruction, regs: &Regs) -> bool
 
 /// Returns whether an instruction isn't allowed at its position in an IT block.
 #[inline]
-pub fn is_misplaced(place: BlockPlace, regs: &Regs) -> bool
+pub fn is_misplaced(place: ItPosition, regs: &Regs) -> bool
     ensures { result ≡ is_misplaced place regs.now.it_state }
 {
     match place {
-        BlockPlace::Anywhere => false,
-        BlockPlace::LastOnly => regs.in_it_block() && !regs.last_in_it_block(),
-        BlockPlace::Never => regs.in_it_block(),
+        ItPosition::Anywhere => false,
+        ItPosition::LastOnly => regs.in_it_block() && !regs.last_in_it_block(),
+        ItPosition::Never => regs.in_it_block(),
     }
 }
 

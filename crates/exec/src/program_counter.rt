@@ -3,7 +3,7 @@
 
 ghost use Rattle.std.specs.Prelude.{◌≡◌, ◌==◌};
 ghost use Rattle.exec.specs.Plans.{finished_as};
-ghost use Rattle.reference.specs.ProgramCounter.{moves_on, branches, branches_by, is_exception_return, exchanges};
+ghost use Rattle.reference.specs.ProgramCounter.{advances, branches, branches_by, is_exception_return, exchanges};
 ghost use Rattle.reference.specs.ProgramCounter.{loads_into};
 
 use instruction_set::instruction::InstructionLength;
@@ -15,11 +15,11 @@ use regs::Regs;
 
 /// Advances IT, and the PC by the length of the instruction.
 #[inline]
-pub fn move_on(regs: &mut Regs, length: InstructionLength) -> Ending
-    ensures { finished_as regs.new result ≡ moves_on length regs.old }
+pub fn advance(regs: &mut Regs, length: InstructionLength) -> Ending
+    ensures { finished_as regs.new result ≡ advances length regs.old }
 {
     regs.it_advance();
-    regs.go_on(length.bytes());
+    regs.advance_pc(length.bytes());
     Ending::Next
 }
 
@@ -82,5 +82,5 @@ pub fn load_into(regs: &mut Regs, length: InstructionLength, target: Register, v
         return exchange(regs, value);
     }
     regs.set(target, value);
-    move_on(regs, length)
+    advance(regs, length)
 }

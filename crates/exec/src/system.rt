@@ -3,10 +3,10 @@
 
 ghost use Rattle.std.specs.Prelude.{◌≡◌, []};
 ghost use Rattle.exec.specs.Plans.{finished_as, planned};
-ghost use Rattle.reference.specs.SystemInstructions.{has_no_condition, hint_ending, moves_on_and, system_effect};
+ghost use Rattle.reference.specs.SystemInstructions.{has_no_condition, hint_ending, advances_and, system_effect};
 ghost use Rattle.reference.specs.SystemInstructions.{system_requests};
 
-use crate::program_counter::move_on;
+use crate::program_counter::advance;
 use instruction_set::instruction::InstructionLength;
 use instruction_set::system::{Hint, System};
 use reference::accesses::Requests;
@@ -31,7 +31,7 @@ pub fn has_no_condition(instruction: &System) -> bool
 
 /// Appends no access, and rejects none: each instruction of this family is carried out without one.
 #[inline]
-pub fn wants(instruction: &System, requests: &Requests) -> Result<(), Failure>
+pub fn plan(instruction: &System, requests: &Requests) -> Result<(), Failure>
     requires { requests.now.items ≡ [] }
     ensures { planned requests.now result ≡ system_requests instruction.now }
 {
@@ -72,9 +72,9 @@ pub fn finish(length: InstructionLength, instruction: &System, regs: &mut Regs) 
 /// Advances IT, and the PC past the instruction, and returns this ending.
 #[inline]
 fn move_on_and(ending: Ending, regs: &mut Regs, length: InstructionLength) -> Ending
-    ensures { finished_as regs.new result ≡ moves_on_and ending length regs.old }
+    ensures { finished_as regs.new result ≡ advances_and ending length regs.old }
 {
-    let _ = move_on(regs, length);
+    let _ = advance(regs, length);
     ending
 }
 

@@ -3,3 +3,5 @@ pub mod Showing
 mod Slicing
 mod Telling
 mod Turning
+mod Searching
+mod Returning

@@ -4,7 +4,7 @@ use Rattle.std.proofs.Common.{Result, Ok, Err, refl, sym, ◌∙◌, ap, subst, 
 use Rattle.std.proofs.KnownBytes.{Appends-nil, Appends-trans}
 use Rattle.std.proofs.lemmas.List.{append-nil, take-append-drop, take_more}
 use Rattle.std.specs.Io.KnownBytes.{Appends}
-use Rattle.gdb.specs.Consoles.{Console, Shown, ShownInPart, Shows, console_after, console_with, sent_by, sent_with}
+use Rattle.gdb.specs.Consoles.{Console, Shown, ShownInPart, ShowsText, console_after, console_with, sent_by, sent_with}
 use Rattle.output.specs.Output.{IsCutShort, Writing, WritesAll}
 use Rattle.platform.specs.declared.event.Event.{Event}
 
@@ -114,7 +114,7 @@ bytes_cut a b e c d text i inside so_far put =
 -- ---- texts one after another, the last of which may be cut
 
 pub shows_on : {E : Type 0} (a b e : Writing) (c d f : Console) (xs ys : List ℕ) (result : Result (Unit {0}) E)
-    → Shown a b c d xs → Shows b e d f ys result → Shows a e c f (xs ++ ys) result
+    → Shown a b c d xs → ShowsText b e d f ys result → ShowsText a e c f (xs ++ ys) result
 shows_on a b e c d f xs ys (Ok done) first then = shown_on a b e c d f xs ys first then
 shows_on a b e c d f xs ys (Err error) first then = part_on a b e c d xs ys first then
 

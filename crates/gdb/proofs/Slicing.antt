@@ -14,15 +14,15 @@ use Rattle.gdb.specs.Slices.{unless_ended}
 use Rattle.gdb.specs.Watching.{state_unless}
 use Rattle.gdb_texts.specs.declared.stops.StopReason.{StopReason}
 use Rattle.gdb_texts.specs.declared.watchpoints.Watchpoint.{Watchpoint}
-use Rattle.machine.specs.Whole.{Whole}
+use Rattle.machine.specs.MachineModel.{MachineModel}
 use Rattle.output.specs.Output.{Writing}
 use Rattle.platform.specs.declared.access.DecidedAccess.{DecidedAccess}
 use Rattle.platform.specs.declared.event.Event.{Event}
 use Rattle.platform.specs.Events.{access_of}
 use Rattle.reference.specs.State.{State}
 use Rattle.reference.specs.Step.{step}
-use Rattle.serving.proofs.Telling.{cut_before, cut_on, last-append, one_cut, tells_none, tells_on}
-use Rattle.serving.specs.Pieces.{Piece, TellsAll, TellsPart, last_state}
+use Rattle.serving.proofs.Delivering.{cut_before, cut_on, last-append, one_cut, delivers_none, delivers_on}
+use Rattle.serving.specs.Pieces.{Piece, DeliversAll, DeliversPart, last_state}
 use Rattle.trace.specs.declared.selection.TraceSelection.{TraceSelection}
 use Rattle.trace.specs.Selection.{selected_text}
 
@@ -80,16 +80,16 @@ none_watched (w ∷ ws) events empty =
 
 -- the step's text was cut
 pub step_cut : (p : Plan) (points : Points) (f : Flow) (o : Option StopReason) (k : TraceSelection)
-    (events : List Event) (old new : Whole) (a b : Writing) → o ≡ hit_next points f.state → is_some o ≡ false
+    (events : List Event) (old new : MachineModel) (a b : Writing) → o ≡ hit_next points f.state → is_some o ≡ false
     → k ≡ selection_of p.settings.selection → events ≡ (step f.state).events
     → new ≡ record old { state = state_unless o f.state }
-    → ShownInPart a b f.console (selected_text k events) → TellsPart (one_step p points f).pieces old new a b
+    → ShownInPart a b f.console (selected_text k events) → DeliversPart (one_step p points f).pieces old new a b
 step_cut p points f o k events old new a b is none same these stands cut =
     let shown : ShownInPart a b f.console (step_text p f.state) =
     subst (λ (text : List ℕ). ShownInPart a b f.console text)
     (ap (λ (m : TraceSelection). selected_text m events) same
     ∙ ap (λ (es : List Event). selected_text (selection_of p.settings.selection) es) these) cut in
-    subst (λ (ps : List Piece). TellsPart ps old new a b) (sym (ap (λ (r : Sliced). r.pieces)
+    subst (λ (ps : List Piece). DeliversPart ps old new a b) (sym (ap (λ (r : Sliced). r.pieces)
     (step_made p points f o is none)))
     (one_cut (step_piece p f) old new a b shown.0
     (stands ∙ ap (λ (s : State). record old { state = s }) (past_it o f.state none)) shown.1)
@@ -131,10 +131,10 @@ slice_leaves p points (suc n) f =
     (ends_or part.flow n part.reason part.events _ (slice_leaves p points n part.flow)))
 
 -- the machine is in the state that the slice leaves
-pub stands_there : (f : Flow) (n : ℕ) (sliced : Sliced) (old new : Whole) (a b : Writing) → old.state ≡ f.state
-    → Leaves f n sliced → TellsAll sliced.pieces old new a b → new.state ≡ sliced.flow.state
-stands_there f n sliced old new a b same leaves tells =
-    ap (λ (m : Whole). m.state) tells.stands
+pub stands_there : (f : Flow) (n : ℕ) (sliced : Sliced) (old new : MachineModel) (a b : Writing) → old.state ≡ f.state
+    → Leaves f n sliced → DeliversAll sliced.pieces old new a b → new.state ≡ sliced.flow.state
+stands_there f n sliced old new a b same leaves delivers =
+    ap (λ (m : MachineModel). m.state) delivers.stands
     ∙ (ap (λ (s : State). last_state s sliced.pieces) same ∙ leaves.state)
 
 -- what a run has made after it
@@ -190,56 +190,57 @@ ends_in p points n f r is =
     ap (λ (o : Option StopReason). unless_ended o (one_step p points f).events (one_step p points f).flow
     (slice p points (n - 1) (one_step p points f).flow)) (sym is)
 
-pub goes_on : (p : Plan) (points : Points) (n : ℕ) (f : Flow) → None ≡ (one_step p points f).reason
+pub continues : (p : Plan) (points : Points) (n : ℕ) (f : Flow) → None ≡ (one_step p points f).reason
     → later_of p points n f ≡ slice p points (n - 1) (one_step p points f).flow
 unfolding later_of
-goes_on p points n f is =
+continues p points n f is =
     ap (λ (o : Option StopReason). unless_ended o (one_step p points f).events (one_step p points f).flow
     (slice p points (n - 1) (one_step p points f).flow)) (sym is)
 
 -- ---- so far
 
 -- some pieces of a slice went out, and `rest` is still to come
-pub record Sliding (all rest : Sliced) (old new : Whole) (a b : Writing) : Type 0 where
+pub record Sliding (all rest : Sliced) (old new : MachineModel) (a b : Writing) : Type 0 where
   pub done : List Piece
   pub whole : all ≡ after_pieces done rest
-  pub tells : TellsAll done old new a b
+  pub delivers : DeliversAll done old new a b
 
-pub nothing_yet : (all : Sliced) (m : Whole) (a : Writing) → Sliding all all m m a a
-nothing_yet all m a = record { done = []; whole = refl; tells = tells_none m a }
+pub nothing_yet : (all : Sliced) (m : MachineModel) (a : Writing) → Sliding all all m m a a
+nothing_yet all m a = record { done = []; whole = refl; delivers = delivers_none m a }
 
 -- more pieces went out
-pub more_told : (all rest later : Sliced) (more : List Piece) (old mid new : Whole) (a b c : Writing)
-    → Sliding all rest old mid a b → rest ≡ after_pieces more later → TellsAll more mid new b c
+pub more_delivered : (all rest later : Sliced) (more : List Piece) (old mid new : MachineModel) (a b c : Writing)
+    → Sliding all rest old mid a b → rest ≡ after_pieces more later → DeliversAll more mid new b c
     → Sliding all later old new a c
-more_told all rest later more old mid new a b c so_far is next = record {
+more_delivered all rest later more old mid new a b c so_far is next = record {
   done = so_far.done ++ more;
   whole = so_far.whole ∙ (ap (λ (r : Sliced). after_pieces so_far.done r) is
       ∙ ap (λ (ps : List Piece). record later { pieces = ps })
       (sym (append_assoc so_far.done more later.pieces)));
-  tells = tells_on so_far.done more old mid new a b c so_far.tells next;
+  delivers = delivers_on so_far.done more old mid new a b c so_far.delivers next;
 }
 
 -- the rest has no piece
-pub all_told : (all rest : Sliced) (old new : Whole) (a b : Writing) → Sliding all rest old new a b → rest.pieces ≡ []
-    → TellsAll all.pieces old new a b
-all_told all rest old new a b so_far none =
-    subst (λ (ps : List Piece). TellsAll ps old new a b)
+pub all_delivered : (all rest : Sliced) (old new : MachineModel) (a b : Writing) → Sliding all rest old new a b
+    → rest.pieces ≡ []
+    → DeliversAll all.pieces old new a b
+all_delivered all rest old new a b so_far none =
+    subst (λ (ps : List Piece). DeliversAll ps old new a b)
     (sym (ap (λ (r : Sliced). r.pieces) so_far.whole ∙ (ap (λ (ps : List Piece). so_far.done ++ ps) none
-    ∙ append-nil so_far.done))) so_far.tells
+    ∙ append-nil so_far.done))) so_far.delivers
 
 -- the next pieces were cut
-pub next_cut : (all rest later : Sliced) (more : List Piece) (old mid new : Whole) (a b c : Writing)
-    → Sliding all rest old mid a b → rest ≡ after_pieces more later → TellsPart more mid new b c
-    → TellsPart all.pieces old new a c
+pub next_cut : (all rest later : Sliced) (more : List Piece) (old mid new : MachineModel) (a b c : Writing)
+    → Sliding all rest old mid a b → rest ≡ after_pieces more later → DeliversPart more mid new b c
+    → DeliversPart all.pieces old new a c
 next_cut all rest later more old mid new a b c so_far is next =
-    subst (λ (ps : List Piece). TellsPart ps old new a c)
+    subst (λ (ps : List Piece). DeliversPart ps old new a c)
     (sym (ap (λ (r : Sliced). r.pieces) (so_far.whole ∙ ap (λ (r : Sliced). after_pieces so_far.done r) is)))
-    (cut_on so_far.done (more ++ later.pieces) old mid new a b c so_far.tells
+    (cut_on so_far.done (more ++ later.pieces) old mid new a b c so_far.delivers
     (cut_before more later.pieces mid new b c next))
 
 -- a slice that is at rest: what a call leaves
-pub left_at : (all rest : Sliced) (old new : Whole) (a b : Writing) (r : Option StopReason) (events : List Event)
+pub left_at : (all rest : Sliced) (old new : MachineModel) (a b : Writing) (r : Option StopReason) (events : List Event)
     (f : Flow) (now : Progress) → Sliding all rest old new a b → rest ≡ at_rest r events f
     → now ≡ record { made = f.made; console = f.console; events = events } → Slices all now r
 left_at all rest old new a b r events f now so_far is kept =
@@ -262,9 +263,10 @@ not_before (Some r) before is has = absurd (let wrong : true ≡ false = has in 
 not_before None before is has = sym is
 
 -- where a step leaves a run
-pub flow_made : (p : Plan) (points : Points) (f : Flow) (progress : Progress) (r : Option StopReason) (old new : Whole)
-    (a b : Writing) → old.state ≡ f.state → TellsAll (one_step p points f).pieces old new a b
+pub flow_made : (p : Plan) (points : Points) (f : Flow) (progress : Progress) (r : Option StopReason)
+    (old new : MachineModel)
+    (a b : Writing) → old.state ≡ f.state → DeliversAll (one_step p points f).pieces old new a b
     → Slices (one_step p points f) progress r → flow progress new.state ≡ (one_step p points f).flow
-flow_made p points f progress r old new a b same tells left =
+flow_made p points f progress r old new a b same delivers left =
     flow_left (one_step p points f) progress new.state r left
-    (stands_there f 1 (one_step p points f) old new a b same (step_leaves p points f) tells)
+    (stands_there f 1 (one_step p points f) old new a b same (step_leaves p points f) delivers)

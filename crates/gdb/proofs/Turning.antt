@@ -9,7 +9,8 @@ use Rattle.gdb.specs.declared.slices.Points.{Points}
 use Rattle.gdb.specs.declared.turns.Turn.{Turn}
 use Rattle.gdb.specs.Slices.{Flow, Progress, Sliced, Slices, after_pieces, after_step, at_rest, before_step, flow}
 use Rattle.gdb.specs.Slices.{reason_then, slice, step_piece, unless_ended}
-use Rattle.gdb.specs.Turns.{Takes, TakesTurn, Turned, after_slice, asked, asked_or, ended, ended_or, flushed, flushing}
+use Rattle.gdb.specs.Turns.{MakesTurn, TakesTurn, Turned, after_slice, asked, asked_or, ended, ended_or, flushed}
+use Rattle.gdb.specs.Turns.{flushing}
 use Rattle.gdb.specs.Turns.{last_slice, question, said, slices, steps_at_once, stop_packet, whys, with_pieces}
 use Rattle.gdb.specs.Consoles.{Console, Shown, ShownInPart, console_after, emptied, flush_text, sent_by}
 use Rattle.gdb.specs.Whys.{told_stop, why_text}
@@ -19,13 +20,13 @@ use Rattle.gdb_texts.specs.declared.watchpoints.Watchpoint.{Watchpoint}
 use Rattle.gdb_texts.specs.declared.settings.Settings.{Settings}
 use Rattle.gdb_texts.specs.declared.stops.StopReason.{StopReason}
 use Rattle.gdb_texts.specs.declared.stops.StopReason.TheVariants.{Interrupted}
-use Rattle.machine.specs.Whole.{Whole}
+use Rattle.machine.specs.MachineModel.{MachineModel}
 use Rattle.output.specs.Output.{IsCutShort, Writing, WritesAll}
 use Rattle.platform.specs.declared.event.Event.{Event}
 use Rattle.reference.specs.State.{State}
 use Rattle.reference.specs.Step.{step}
-use Rattle.serving.proofs.Telling.{cut_before, cut_on, one_cut, tells_none, tells_on}
-use Rattle.serving.specs.Pieces.{Piece, Tells, TellsAll, TellsPart, last_state}
+use Rattle.serving.proofs.Delivering.{cut_before, cut_on, one_cut, delivers_none, delivers_on}
+use Rattle.serving.specs.Pieces.{Piece, Delivers, DeliversAll, DeliversPart, last_state}
 
 -- ---- what a slice leaves
 
@@ -34,7 +35,8 @@ pub events_left : (sliced : Sliced) (progress : Progress) (r : Option StopReason
 events_left sliced progress r left = ap (λ (q : Progress). q.events) left.1
 
 -- the end of a run after it
-pub end_left : (k : Settings) (w : List Watchpoint) (features : Features) (r : StopReason) (sliced : Sliced) (progress : Progress) (s : State)
+pub end_left : (k : Settings) (w : List Watchpoint) (features : Features) (r : StopReason) (sliced : Sliced)
+    (progress : Progress) (s : State)
     (o : Option StopReason) → Slices sliced progress o → s ≡ sliced.flow.state
     → ended k w features r progress.events (flow progress s) ≡ ended k w features r sliced.events sliced.flow
 end_left k w features r sliced progress s o left same =
@@ -44,54 +46,55 @@ end_left k w features r sliced progress s o left same =
 -- ---- so far
 
 -- some pieces of a turn went out, and `rest` is still to come
-pub record Going (all rest : Turned) (old new : Whole) (a b : Writing) : Type 0 where
+pub record Going (all rest : Turned) (old new : MachineModel) (a b : Writing) : Type 0 where
   pub done : List Piece
   pub whole : all ≡ with_pieces done rest
-  pub tells : TellsAll done old new a b
+  pub delivers : DeliversAll done old new a b
 
-pub not_begun : (all : Turned) (m : Whole) (a : Writing) → Going all all m m a a
-not_begun all m a = record { done = []; whole = refl; tells = tells_none m a }
+pub not_begun : (all : Turned) (m : MachineModel) (a : Writing) → Going all all m m a a
+not_begun all m a = record { done = []; whole = refl; delivers = delivers_none m a }
 
-pub gone_on : (all rest later : Turned) (ps : List Piece) (old mid new : Whole) (a b c : Writing)
-    → Going all rest old mid a b → rest ≡ with_pieces ps later → TellsAll ps mid new b c
+pub gone_on : (all rest later : Turned) (ps : List Piece) (old mid new : MachineModel) (a b c : Writing)
+    → Going all rest old mid a b → rest ≡ with_pieces ps later → DeliversAll ps mid new b c
     → Going all later old new a c
 gone_on all rest later ps old mid new a b c so_far is next = record {
   done = so_far.done ++ ps;
   whole = so_far.whole ∙ (ap (λ (t : Turned). with_pieces so_far.done t) is
       ∙ ap (λ (qs : List Piece). record later { pieces = qs })
       (sym (append_assoc so_far.done ps later.pieces)));
-  tells = tells_on so_far.done ps old mid new a b c so_far.tells next;
+  delivers = delivers_on so_far.done ps old mid new a b c so_far.delivers next;
 }
 
 -- the next pieces were cut
-pub rest_cut : (all rest later : Turned) (ps : List Piece) (old mid new : Whole) (a b c : Writing)
-    → Going all rest old mid a b → rest ≡ with_pieces ps later → TellsPart ps mid new b c
-    → TellsPart all.pieces old new a c
+pub rest_cut : (all rest later : Turned) (ps : List Piece) (old mid new : MachineModel) (a b c : Writing)
+    → Going all rest old mid a b → rest ≡ with_pieces ps later → DeliversPart ps mid new b c
+    → DeliversPart all.pieces old new a c
 rest_cut all rest later ps old mid new a b c so_far is next =
-    subst (λ (qs : List Piece). TellsPart qs old new a c)
+    subst (λ (qs : List Piece). DeliversPart qs old new a c)
     (sym (ap (λ (t : Turned). t.pieces) (so_far.whole ∙ ap (λ (t : Turned). with_pieces so_far.done t) is)))
-    (cut_on so_far.done (ps ++ later.pieces) old mid new a b c so_far.tells
+    (cut_on so_far.done (ps ++ later.pieces) old mid new a b c so_far.delivers
     (cut_before ps later.pieces mid new b c next))
 
 -- the rest of the turn was taken
-pub taken : {E : Type 0} (all rest : Turned) (old mid new : Whole) (a b c : Writing) (sent : List ℕ)
-    (result : Result Turn E) → Going all rest old mid a b → Takes rest mid new b c sent result
-    → Takes all old new a c sent result
+pub taken : {E : Type 0} (all rest : Turned) (old mid new : MachineModel) (a b c : Writing) (sent : List ℕ)
+    (result : Result Turn E) → Going all rest old mid a b → MakesTurn rest mid new b c sent result
+    → MakesTurn all old new a c sent result
 taken all rest old mid new a b c sent (Ok ends) so_far next = record {
-  tells = subst (λ (qs : List Piece). TellsAll qs old new a c) (sym (ap (λ (t : Turned). t.pieces) so_far.whole))
-      (tells_on so_far.done rest.pieces old mid new a b c so_far.tells next.tells);
+  delivers = subst (λ (qs : List Piece). DeliversAll qs old new a c) (sym (ap (λ (t : Turned). t.pieces) so_far.whole))
+      (delivers_on so_far.done rest.pieces old mid new a b c so_far.delivers next.delivers);
   outcome = next.outcome ∙ sym (ap (λ (t : Turned). t.outcome) so_far.whole);
   remembered = next.remembered ∙ sym (ap (λ (t : Turned). t.sent) so_far.whole);
 }
 taken all rest old mid new a b c sent (Err error) so_far next =
-    subst (λ (qs : List Piece). TellsPart qs old new a c) (sym (ap (λ (t : Turned). t.pieces) so_far.whole))
-    (cut_on so_far.done rest.pieces old mid new a b c so_far.tells next)
+    subst (λ (qs : List Piece). DeliversPart qs old new a c) (sym (ap (λ (t : Turned). t.pieces) so_far.whole))
+    (cut_on so_far.done rest.pieces old mid new a b c so_far.delivers next)
 
 -- the rest in another form
-pub taken_as : {E : Type 0} (rest same : Turned) (old new : Whole) (a b : Writing) (sent : List ℕ)
-    (result : Result Turn E) → rest ≡ same → Takes rest old new a b sent result → Takes same old new a b sent result
+pub taken_as : {E : Type 0} (rest same : Turned) (old new : MachineModel) (a b : Writing) (sent : List ℕ)
+    (result : Result Turn E) → rest ≡ same → MakesTurn rest old new a b sent result
+    → MakesTurn same old new a b sent result
 taken_as {E} rest same old new a b sent result is takes =
-    subst (λ (t : Turned). Takes t old new a b sent result) is takes
+    subst (λ (t : Turned). MakesTurn t old new a b sent result) is takes
 
 -- ---- the cases of the slices
 
@@ -107,7 +110,8 @@ unfolding slices
 some_left p points features n m rest f e = rw e refl
 
 -- the run ended in a slice
-pub ended_in : (p : Plan) (w : List Watchpoint) (features : Features) (sliced : Sliced) (later : Turned) (r : StopReason)
+pub ended_in : (p : Plan) (w : List Watchpoint) (features : Features) (sliced : Sliced) (later : Turned)
+    (r : StopReason)
     → Some r ≡ sliced.reason → after_slice p w features sliced later
     ≡ with_pieces sliced.pieces (ended p.settings w features r sliced.events sliced.flow)
 ended_in p w features sliced later r is =
@@ -115,7 +119,8 @@ ended_in p w features sliced later r is =
     (with_pieces (flushing sliced.flow ∷ []) (asked_or features p.how (flushed sliced.flow) later)))) (sym is)
 
 -- it goes on
-pub gone_past : (p : Plan) (w : List Watchpoint) (features : Features) (sliced : Sliced) (later : Turned) → None ≡ sliced.reason
+pub gone_past : (p : Plan) (w : List Watchpoint) (features : Features) (sliced : Sliced) (later : Turned) → None
+    ≡ sliced.reason
     → after_slice p w features sliced later
     ≡ with_pieces sliced.pieces (with_pieces (flushing sliced.flow ∷ [])
     (asked_or features p.how (flushed sliced.flow) later))
@@ -133,67 +138,70 @@ not_asked features p f later is = ap (λ (b : Bool). if b then asked p.how f els
 
 -- ---- the end of a run, in three pieces
 
-pub cut_first : (p q r : Piece) (m : Whole) (a b : Writing) → TellsPart (p ∷ []) m m a b
-    → TellsPart (p ∷ q ∷ r ∷ []) m m a b
+pub cut_first : (p q r : Piece) (m : MachineModel) (a b : Writing) → DeliversPart (p ∷ []) m m a b
+    → DeliversPart (p ∷ q ∷ r ∷ []) m m a b
 cut_first p q r m a b cut = cut_before (p ∷ []) (q ∷ r ∷ []) m m a b cut
 
-pub cut_second : (p q r : Piece) (m : Whole) (a b c : Writing) → TellsAll (p ∷ []) m m a b
-    → TellsPart (q ∷ []) m m b c → TellsPart (p ∷ q ∷ r ∷ []) m m a c
+pub cut_second : (p q r : Piece) (m : MachineModel) (a b c : Writing) → DeliversAll (p ∷ []) m m a b
+    → DeliversPart (q ∷ []) m m b c → DeliversPart (p ∷ q ∷ r ∷ []) m m a c
 cut_second p q r m a b c first cut =
     cut_on (p ∷ []) (q ∷ r ∷ []) m m m a b c first (cut_before (q ∷ []) (r ∷ []) m m b c cut)
 
-pub cut_third : (p q r : Piece) (m : Whole) (a b c d : Writing) → TellsAll (p ∷ []) m m a b
-    → TellsAll (q ∷ []) m m b c → TellsPart (r ∷ []) m m c d → TellsPart (p ∷ q ∷ r ∷ []) m m a d
+pub cut_third : (p q r : Piece) (m : MachineModel) (a b c d : Writing) → DeliversAll (p ∷ []) m m a b
+    → DeliversAll (q ∷ []) m m b c → DeliversPart (r ∷ []) m m c d → DeliversPart (p ∷ q ∷ r ∷ []) m m a d
 cut_third p q r m a b c d first second cut =
     cut_on (p ∷ []) (q ∷ r ∷ []) m m m a b d first (cut_on (q ∷ []) (r ∷ []) m m m b c d second cut)
 
-pub all_three : (p q r : Piece) (m : Whole) (a b c d : Writing) → TellsAll (p ∷ []) m m a b
-    → TellsAll (q ∷ []) m m b c → TellsAll (r ∷ []) m m c d → TellsAll (p ∷ q ∷ r ∷ []) m m a d
+pub all_three : (p q r : Piece) (m : MachineModel) (a b c d : Writing) → DeliversAll (p ∷ []) m m a b
+    → DeliversAll (q ∷ []) m m b c → DeliversAll (r ∷ []) m m c d → DeliversAll (p ∷ q ∷ r ∷ []) m m a d
 all_three p q r m a b c d first second third =
-    tells_on (p ∷ []) (q ∷ r ∷ []) m m m a b d first (tells_on (q ∷ []) (r ∷ []) m m m b c d second third)
+    delivers_on (p ∷ []) (q ∷ r ∷ []) m m m a b d first (delivers_on (q ∷ []) (r ∷ []) m m m b c d second third)
 
 -- a text went out between two steps, or was cut
-pub said_all : (m : Whole) (text : List ℕ) (a b : Writing) → WritesAll a b text
-    → TellsAll ((let p : Piece = record { state = m.state; text = text } in p) ∷ []) m m a b
+pub said_all : (m : MachineModel) (text : List ℕ) (a b : Writing) → WritesAll a b text
+    → DeliversAll ((let p : Piece = record { state = m.state; text = text } in p) ∷ []) m m a b
 said_all m text a b went = record {
   went = rw (append-nil text) went.0;
   stands = refl;
   quiet = went.1;
 }
 
-pub said_part : (m : Whole) (text : List ℕ) (a b : Writing) → IsCutShort a.written b.written text
+pub said_part : (m : MachineModel) (text : List ℕ) (a b : Writing) → IsCutShort a.written b.written text
     → b.errors ≡ a.errors + 1
-    → TellsPart ((let p : Piece = record { state = m.state; text = text } in p) ∷ []) m m a b
+    → DeliversPart ((let p : Piece = record { state = m.state; text = text } in p) ∷ []) m m a b
 said_part m text a b cut failed =
     one_cut (record { state = m.state; text = text }) m m a b cut refl failed
 
 -- ---- the clauses of a turn that was taken
 
-pub takes_tells : {E : Type 0} (t : Turned) (old new : Whole) (a b : Writing) (sent : List ℕ) (result : Result Turn E)
-    → Takes t old new a b sent result → Tells t.pieces old new a b result
-takes_tells t old new a b sent (Ok ends) takes = takes.tells
-takes_tells t old new a b sent (Err error) takes = takes
+pub takes_delivers : {E : Type 0} (t : Turned) (old new : MachineModel) (a b : Writing) (sent : List ℕ)
+    (result : Result Turn E)
+    → MakesTurn t old new a b sent result → Delivers t.pieces old new a b result
+takes_delivers t old new a b sent (Ok ends) takes = takes.delivers
+takes_delivers t old new a b sent (Err error) takes = takes
 
-pub takes_outcome : {E : Type 0} (t : Turned) (old new : Whole) (a b : Writing) (sent : List ℕ) (result : Result Turn E)
-    → Takes t old new a b sent result → IfOk result (λ ends. ends ≡ t.outcome)
+pub takes_outcome : {E : Type 0} (t : Turned) (old new : MachineModel) (a b : Writing) (sent : List ℕ)
+    (result : Result Turn E)
+    → MakesTurn t old new a b sent result → IfOk result (λ ends. ends ≡ t.outcome)
 takes_outcome t old new a b sent (Ok ends) takes = takes.outcome
 takes_outcome t old new a b sent (Err error) takes = tt
 
-pub takes_sent : {E : Type 0} (t : Turned) (old new : Whole) (a b : Writing) (sent : List ℕ) (result : Result Turn E)
-    → Takes t old new a b sent result → IfOk result (λ ends. sent ≡ t.sent)
+pub takes_sent : {E : Type 0} (t : Turned) (old new : MachineModel) (a b : Writing) (sent : List ℕ)
+    (result : Result Turn E)
+    → MakesTurn t old new a b sent result → IfOk result (λ ends. sent ≡ t.sent)
 takes_sent t old new a b sent (Ok ends) takes = takes.remembered
 takes_sent t old new a b sent (Err error) takes = tt
 
 -- ---- a whole slice in which the run didn't end
 
 pub past_slice : (p : Plan) (points : Points) (features : Features) (n m rest : ℕ) (f : Flow) (all : Turned)
-    (q : Progress) (o : Option StopReason) (old mid new : Whole) (a b c : Writing)
+    (q : Progress) (o : Option StopReason) (old mid new : MachineModel) (a b c : Writing)
     → Going all (slices p points features n rest f) old mid a b → n ≡ suc m
-    → TellsAll (slice p points steps_at_once f).pieces mid new b c → Slices (slice p points steps_at_once f) q o
+    → DeliversAll (slice p points steps_at_once f).pieces mid new b c → Slices (slice p points steps_at_once f) q o
     → o ≡ None → mid.state ≡ f.state → Going all (with_pieces (flushing (flow q new.state) ∷ [])
     (asked_or features p.how (flushed (flow q new.state))
     (slices p points features m rest (flushed (flow q new.state))))) old new a c
-past_slice p points features n m rest f all q o old mid new a b c so_far some tells left none at =
+past_slice p points features n m rest f all q o old mid new a b c so_far some delivers left none at =
     gone_on all (slices p points features n rest f) _ (slice p points steps_at_once f).pieces old mid new a b c so_far
     (some_left p points features n m rest f some
     ∙ (gone_past p points.watchpoints features (slice p points steps_at_once f)
@@ -202,11 +210,11 @@ past_slice p points features n m rest f all q o old mid new a b c so_far some te
     (asked_or features p.how (flushed u) (slices p points features m rest (flushed u)))))
     (sym (flow_left (slice p points steps_at_once f) q new.state o left
     (stands_there f steps_at_once (slice p points steps_at_once f) mid new b c at
-    (slice_leaves p points steps_at_once f) tells))))) tells
+    (slice_leaves p points steps_at_once f) delivers))))) delivers
 
 -- its text was sent
 pub past_flush : (p : Plan) (points : Points) (features : Features) (m rest : ℕ) (all : Turned)
-    (q r : Progress) (old new : Whole) (a b c : Writing)
+    (q r : Progress) (old new : MachineModel) (a b c : Writing)
     → Going all (with_pieces (flushing (flow q new.state) ∷ []) (asked_or features p.how (flushed (flow q new.state))
     (slices p points features m rest (flushed (flow q new.state))))) old new a b
     → WritesAll b c (flush_text q.console) → r ≡ record q { console = emptied q.console }
@@ -218,16 +226,17 @@ past_flush p points features m rest all q r old new a b c so_far went kept =
     (slices p points features m rest (flow k new.state)))) (sym kept)) (said_all new (flush_text q.console) b c went)
 
 -- it was cut
-pub flush_cut : (all later : Turned) (q : Progress) (old new : Whole) (a b c : Writing)
+pub flush_cut : (all later : Turned) (q : Progress) (old new : MachineModel) (a b c : Writing)
     → Going all (with_pieces (flushing (flow q new.state) ∷ []) later) old new a b
     → IsCutShort b.written c.written (flush_text q.console) → c.errors ≡ b.errors + 1
-    → TellsPart all.pieces old new a c
+    → DeliversPart all.pieces old new a c
 flush_cut all later q old new a b c so_far cut failed =
     rest_cut all _ later (flushing (flow q new.state) ∷ []) old new new a b c so_far refl
     (said_part new (flush_text q.console) b c cut failed)
 
 -- GDB is asked
-pub asks : (features : Features) (p : Plan) (all later : Turned) (q : Progress) (old new : Whole) (a b c : Writing)
+pub asks : (features : Features) (p : Plan) (all later : Turned) (q : Progress) (old new : MachineModel)
+    (a b c : Writing)
     (sent : List ℕ) (ends : Turn)
     → Going all (asked_or features p.how (flow q new.state) later) old new a b → features.is_gdb ≡ true
     → WritesAll b c question → ends ≡ (asked p.how (flow q new.state)).outcome → sent ≡ question
@@ -236,38 +245,41 @@ asks features p all later q old new a b c sent ends so_far gdb went outcome reme
     let is : all ≡ with_pieces so_far.done (asked p.how (flow q new.state)) =
     so_far.whole ∙ ap (λ (t : Turned). with_pieces so_far.done t) (is_asked features p (flow q new.state) later gdb) in
     record {
-      tells = subst (λ (qs : List Piece). TellsAll qs old new a c) (sym (ap (λ (t : Turned). t.pieces) is))
-          (tells_on so_far.done (said (flow q new.state) question ∷ []) old new new a b c so_far.tells
+      delivers = subst (λ (qs : List Piece). DeliversAll qs old new a c) (sym (ap (λ (t : Turned). t.pieces) is))
+          (delivers_on so_far.done (said (flow q new.state) question ∷ []) old new new a b c so_far.delivers
           (said_all new question b c went));
       outcome = outcome ∙ sym (ap (λ (t : Turned). t.outcome) is);
       remembered = remembered ∙ sym (ap (λ (t : Turned). t.sent) is);
     }
 
-pub asks_cut : (features : Features) (p : Plan) (all later : Turned) (q : Progress) (old new : Whole) (a b c : Writing)
+pub asks_cut : (features : Features) (p : Plan) (all later : Turned) (q : Progress) (old new : MachineModel)
+    (a b c : Writing)
     → Going all (asked_or features p.how (flow q new.state) later) old new a b → features.is_gdb ≡ true
-    → IsCutShort b.written c.written question → c.errors ≡ b.errors + 1 → TellsPart all.pieces old new a c
+    → IsCutShort b.written c.written question → c.errors ≡ b.errors + 1 → DeliversPart all.pieces old new a c
 asks_cut features p all later q old new a b c so_far gdb cut failed =
     let is : all ≡ with_pieces so_far.done (asked p.how (flow q new.state)) =
     so_far.whole ∙ ap (λ (t : Turned). with_pieces so_far.done t) (is_asked features p (flow q new.state) later gdb) in
-    subst (λ (qs : List Piece). TellsPart qs old new a c) (sym (ap (λ (t : Turned). t.pieces) is))
-    (cut_on so_far.done (said (flow q new.state) question ∷ []) old new new a b c so_far.tells
+    subst (λ (qs : List Piece). DeliversPart qs old new a c) (sym (ap (λ (t : Turned). t.pieces) is))
+    (cut_on so_far.done (said (flow q new.state) question ∷ []) old new new a b c so_far.delivers
     (said_part new question b c cut failed))
 
-pub asks_none : (features : Features) (p : Plan) (all later : Turned) (f : Flow) (old new : Whole) (a b : Writing)
+pub asks_none : (features : Features) (p : Plan) (all later : Turned) (f : Flow) (old new : MachineModel)
+    (a b : Writing)
     → Going all (asked_or features p.how f later) old new a b → features.is_gdb ≡ false → Going all later old new a b
 asks_none features p all later f old new a b so_far other =
     subst (λ (t : Turned). Going all t old new a b) (not_asked features p f later other) so_far
 
 -- the run ended in a whole slice
 pub whole_end : {E : Type 0} (p : Plan) (points : Points) (features : Features) (n m rest : ℕ) (f : Flow)
-    (all : Turned) (q : Progress) (o : Option StopReason) (r : StopReason) (old mid new : Whole) (a b c d : Writing)
+    (all : Turned) (q : Progress) (o : Option StopReason) (r : StopReason) (old mid new : MachineModel)
+    (a b c d : Writing)
     (sent : List ℕ) (result : Result Turn E)
     → Going all (slices p points features n rest f) old mid a b → n ≡ suc m
-    → TellsAll (slice p points steps_at_once f).pieces mid new b c → Slices (slice p points steps_at_once f) q o
+    → DeliversAll (slice p points steps_at_once f).pieces mid new b c → Slices (slice p points steps_at_once f) q o
     → o ≡ Some r → mid.state ≡ f.state
-    → Takes (ended p.settings points.watchpoints features r q.events (flow q new.state)) new new c d sent result
-    → Takes all old new a d sent result
-whole_end p points features n m rest f all q o r old mid new a b c d sent result so_far some tells left is at takes =
+    → MakesTurn (ended p.settings points.watchpoints features r q.events (flow q new.state)) new new c d sent result
+    → MakesTurn all old new a d sent result
+whole_end p points features n m rest f all q o r old mid new a b c d sent result so_far some delivers left is at takes =
     taken all (ended p.settings points.watchpoints features r q.events (flow q new.state)) old new new a c d sent result
     (gone_on all (slices p points features n rest f) _ (slice p points steps_at_once f).pieces old mid new a b c so_far
     (some_left p points features n m rest f some
@@ -276,76 +288,84 @@ whole_end p points features n m rest f all q o r old mid new a b c d sent result
     ∙ ap (λ (t : Turned). with_pieces (slice p points steps_at_once f).pieces t)
     (sym (end_left p.settings points.watchpoints features r (slice p points steps_at_once f) q new.state o left
     (stands_there f steps_at_once (slice p points steps_at_once f) mid new b c at
-    (slice_leaves p points steps_at_once f) tells))))) tells) takes
+    (slice_leaves p points steps_at_once f) delivers))))) delivers) takes
 
 -- ---- the last slice
 
-pub last_taken : {E : Type 0} (p : Plan) (w : List Watchpoint) (features : Features) (sliced : Sliced) (q : Progress) (o : Option StopReason)
-    (r : StopReason) (old mid : Whole) (a b c : Writing) (sent : List ℕ) (result : Result Turn E)
-    → TellsAll sliced.pieces old mid a b → Slices sliced q o → r ≡ unwrap_or o Interrupted
+pub last_taken : {E : Type 0} (p : Plan) (w : List Watchpoint) (features : Features) (sliced : Sliced) (q : Progress)
+    (o : Option StopReason)
+    (r : StopReason) (old mid : MachineModel) (a b c : Writing) (sent : List ℕ) (result : Result Turn E)
+    → DeliversAll sliced.pieces old mid a b → Slices sliced q o → r ≡ unwrap_or o Interrupted
     → mid.state ≡ sliced.flow.state
-    → Takes (ended p.settings w features r q.events (flow q mid.state)) mid mid b c sent result
-    → Takes (last_slice p w features sliced) old mid a c sent result
-last_taken p w features sliced q o r old mid a b c sent result tells left is same takes =
+    → MakesTurn (ended p.settings w features r q.events (flow q mid.state)) mid mid b c sent result
+    → MakesTurn (last_slice p w features sliced) old mid a c sent result
+last_taken p w features sliced q o r old mid a b c sent result delivers left is same takes =
     taken (last_slice p w features sliced)
     (ended p.settings w features (unwrap_or sliced.reason Interrupted) sliced.events sliced.flow)
     old mid mid a b c sent result
     (gone_on _ (last_slice p w features sliced) _ sliced.pieces old old mid a a b
-    (not_begun (last_slice p w features sliced) old a) refl tells)
+    (not_begun (last_slice p w features sliced) old a) refl delivers)
     (taken_as _ _ mid mid b c sent result
     (ap (λ (x : StopReason). ended p.settings w features x q.events (flow q mid.state))
     (is ∙ ap (λ (u : Option StopReason). unwrap_or u Interrupted) left.0)
     ∙ end_left p.settings w features (unwrap_or sliced.reason Interrupted) sliced q mid.state o left same) takes)
 
-pub last_cut : (p : Plan) (w : List Watchpoint) (features : Features) (sliced : Sliced) (old mid : Whole) (a b : Writing)
-    → TellsPart sliced.pieces old mid a b → TellsPart (last_slice p w features sliced).pieces old mid a b
+pub last_cut : (p : Plan) (w : List Watchpoint) (features : Features) (sliced : Sliced) (old mid : MachineModel)
+    (a b : Writing)
+    → DeliversPart sliced.pieces old mid a b → DeliversPart (last_slice p w features sliced).pieces old mid a b
 last_cut p w features sliced old mid a b cut =
     cut_before sliced.pieces (ended p.settings w features (unwrap_or sliced.reason Interrupted) sliced.events
     sliced.flow).pieces old mid a b cut
 
 -- ---- the end of a run
 
-pub ends_first : (k : Settings) (w : List Watchpoint) (features : Features) (r : StopReason) (q : Progress) (m : Whole) (a b : Writing)
+pub ends_first : (k : Settings) (w : List Watchpoint) (features : Features) (r : StopReason) (q : Progress)
+    (m : MachineModel) (a b : Writing)
     (stop : Option Stop) → stop ≡ told_stop r m.state.stop
     → ShownInPart a b q.console (why_text k w q.events stop q.console.last)
-    → TellsPart (ended k w features r q.events (flow q m.state)).pieces m m a b
+    → DeliversPart (ended k w features r q.events (flow q m.state)).pieces m m a b
 ends_first k w features r q m a b stop is cut =
     let shown : ShownInPart a b q.console (whys k w r q.events (flow q m.state)) =
     subst (λ (o : Option Stop). ShownInPart a b q.console (why_text k w q.events o q.console.last)) is cut in
     cut_first _ _ _ m a b (said_part m (sent_by q.console (whys k w r q.events (flow q m.state))) a b shown.0 shown.1)
 
 -- the lines were put
-abbrev pub Told : Settings → List Watchpoint → StopReason → Progress → Progress → Whole → Writing → Writing → Type 0
+abbrev pub Told : Settings → List Watchpoint → StopReason → Progress → Progress → MachineModel → Writing → Writing
+    → Type 0
 Told k w r q next m a b = Shown a b q.console next.console (whys k w r q.events (flow q m.state))
 
-pub told_as : (k : Settings) (w : List Watchpoint) (r : StopReason) (q next : Progress) (m : Whole) (a b : Writing) (stop : Option Stop)
+pub told_as : (k : Settings) (w : List Watchpoint) (r : StopReason) (q next : Progress) (m : MachineModel)
+    (a b : Writing) (stop : Option Stop)
     → stop ≡ told_stop r m.state.stop
     → Shown a b q.console next.console (why_text k w q.events stop q.console.last) → Told k w r q next m a b
 told_as k w r q next m a b stop is shown =
     subst (λ (o : Option Stop). Shown a b q.console next.console (why_text k w q.events o q.console.last)) is shown
 
-pub ends_second : (k : Settings) (w : List Watchpoint) (features : Features) (r : StopReason) (q next : Progress) (m : Whole)
+pub ends_second : (k : Settings) (w : List Watchpoint) (features : Features) (r : StopReason) (q next : Progress)
+    (m : MachineModel)
     (a b c : Writing) → Told k w r q next m a b → IsCutShort b.written c.written (flush_text next.console)
-    → c.errors ≡ b.errors + 1 → TellsPart (ended k w features r q.events (flow q m.state)).pieces m m a c
+    → c.errors ≡ b.errors + 1 → DeliversPart (ended k w features r q.events (flow q m.state)).pieces m m a c
 ends_second k w features r q next m a b c told cut failed =
     cut_second _ _ _ m a b c (said_all m (sent_by q.console (whys k w r q.events (flow q m.state))) a b told.0)
     (said_part m (flush_text (console_after q.console (whys k w r q.events (flow q m.state)))) b c
     (subst (λ (d : Console). IsCutShort b.written c.written (flush_text d)) told.1 cut) failed)
 
-pub ends_third : (k : Settings) (w : List Watchpoint) (features : Features) (r : StopReason) (q next : Progress) (m : Whole)
+pub ends_third : (k : Settings) (w : List Watchpoint) (features : Features) (r : StopReason) (q next : Progress)
+    (m : MachineModel)
     (a b c d : Writing) → Told k w r q next m a b → WritesAll b c (flush_text next.console)
     → IsCutShort c.written d.written (stop_packet features r m.state) → d.errors ≡ c.errors + 1
-    → TellsPart (ended k w features r q.events (flow q m.state)).pieces m m a d
+    → DeliversPart (ended k w features r q.events (flow q m.state)).pieces m m a d
 ends_third k w features r q next m a b c d told went cut failed =
     cut_third _ _ _ m a b c d (said_all m (sent_by q.console (whys k w r q.events (flow q m.state))) a b told.0)
     (said_all m (flush_text (console_after q.console (whys k w r q.events (flow q m.state)))) b c
     (subst (λ (e : Console). WritesAll b c (flush_text e)) told.1 went))
     (said_part m (stop_packet features r m.state) c d cut failed)
 
-pub ends_all : (k : Settings) (w : List Watchpoint) (features : Features) (r : StopReason) (q next : Progress) (m : Whole)
+pub ends_all : (k : Settings) (w : List Watchpoint) (features : Features) (r : StopReason) (q next : Progress)
+    (m : MachineModel)
     (a b c d : Writing) → Told k w r q next m a b → WritesAll b c (flush_text next.console)
     → WritesAll c d (stop_packet features r m.state)
-    → TellsAll (ended k w features r q.events (flow q m.state)).pieces m m a d
+    → DeliversAll (ended k w features r q.events (flow q m.state)).pieces m m a d
 ends_all k w features r q next m a b c d told went reply =
     all_three _ _ _ m a b c d (said_all m (sent_by q.console (whys k w r q.events (flow q m.state))) a b told.0)
     (said_all m (flush_text (console_after q.console (whys k w r q.events (flow q m.state)))) b c

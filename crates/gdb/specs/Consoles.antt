@@ -56,6 +56,6 @@ abbrev pub ShownInPart : Writing → Writing → Console → List ℕ → Type 0
 ShownInPart out out' c text =
     IsCutShort out.written out'.written (sent_by c text) × (out'.errors ≡ out.errors + 1)
 
-abbrev pub Shows : {E : Type 0} → Writing → Writing → Console → Console → List ℕ → Result (Unit {0}) E → Type 0
-Shows out out' c c' text (Ok done) = Shown out out' c c' text
-Shows out out' c c' text (Err error) = ShownInPart out out' c text
+abbrev pub ShowsText : {E : Type 0} → Writing → Writing → Console → Console → List ℕ → Result (Unit {0}) E → Type 0
+ShowsText out out' c c' text (Ok done) = Shown out out' c c' text
+ShowsText out out' c c' text (Err error) = ShownInPart out out' c text

@@ -1,6 +1,8 @@
 pub mod Consoles
 pub mod MemoryReads
 pub mod Reasons
+pub mod Returns
+pub mod Searches
 pub mod Slices
 pub mod Targets
 pub mod Turns

@@ -4,8 +4,8 @@ use Rattle.machine.specs.Seen.{seen_at}
 use Rattle.reference.specs.State.{State}
 
 -- the most bytes of an answer (profile)
-abbrev pub most_read : ℕ
-most_read = 2048
+abbrev pub max_read : ℕ
+max_read = 2048
 
 -- the byte at an address, which may be beyond the address space
 abbrev pub byte_seen : State → ℕ → Option ℕ
@@ -22,4 +22,4 @@ bytes_seen s a (suc n) = up_to_gap (byte_seen s a) (bytes_seen s (a + 1) n)
 
 -- those of an answer
 abbrev pub memory_read : State → ℕ → ℕ → List ℕ
-memory_read s a n = bytes_seen s a (min n most_read)
+memory_read s a n = bytes_seen s a (min n max_read)

@@ -18,13 +18,13 @@ use Rattle.gdb_texts.specs.declared.watchpoints.Watchpoint.{Watchpoint}
 use Rattle.gdb_texts.specs.declared.settings.Settings.{Settings}
 use Rattle.gdb_texts.specs.declared.stops.StopReason.{StopReason}
 use Rattle.gdb_texts.specs.declared.stops.StopReason.TheVariants.{Interrupted}
-use Rattle.gdb_texts.specs.Settings.{most_steps}
+use Rattle.gdb_texts.specs.Settings.{max_steps}
 use Rattle.gdb_texts.specs.Stops.{signal_of, stop_reply}
 use Rattle.platform.specs.declared.event.Event.{Event}
 use Rattle.reference.specs.State.{State}
-use Rattle.machine.specs.Whole.{Whole}
+use Rattle.machine.specs.MachineModel.{MachineModel}
 use Rattle.output.specs.Output.{Writing}
-use Rattle.serving.specs.Pieces.{Piece, TellsAll, TellsPart}
+use Rattle.serving.specs.Pieces.{Piece, DeliversAll, DeliversPart}
 
 pub record Turned : Type 0 where
   -- the pieces that go out
@@ -137,17 +137,18 @@ plan_of k limit run = record { how = run.how; limit = limit; settings = k }
 abbrev pub turn : Points → Settings → Features → ℕ → Run → State → Turned
 turn points k features limit run s =
     if run.is_interrupted then ended k points.watchpoints features Interrupted [] (begun run s)
-    else all_slices (plan_of k limit run) points features (steps_left (most_steps k features.is_gdb) run.made)
+    else all_slices (plan_of k limit run) points features (steps_left (max_steps k features.is_gdb) run.made)
     (begun run s)
 
 -- ---- what a call that took a turn leaves
 
-pub record TakesTurn (turned : Turned) (old new : Whole) (before after : Writing) (sent : List ℕ) (ends : Turn)
+pub record TakesTurn (turned : Turned) (old new : MachineModel) (before after : Writing) (sent : List ℕ) (ends : Turn)
     : Type 0 where
-  pub tells : TellsAll turned.pieces old new before after
+  pub delivers : DeliversAll turned.pieces old new before after
   pub outcome : ends ≡ turned.outcome
   pub remembered : sent ≡ turned.sent
 
-abbrev pub Takes : {E : Type 0} → Turned → Whole → Whole → Writing → Writing → List ℕ → Result Turn E → Type 0
-Takes turned old new before after sent (Ok ends) = TakesTurn turned old new before after sent ends
-Takes turned old new before after sent (Err error) = TellsPart turned.pieces old new before after
+abbrev pub MakesTurn : {E : Type 0} → Turned → MachineModel → MachineModel → Writing → Writing → List ℕ → Result Turn E
+    → Type 0
+MakesTurn turned old new before after sent (Ok ends) = TakesTurn turned old new before after sent ends
+MakesTurn turned old new before after sent (Err error) = DeliversPart turned.pieces old new before after

@@ -1,7 +1,7 @@
 //! Text for GDB's console, in packets.
 
 ghost use Rattle.std.specs.Prelude.{◌≡◌, [], ◌∷◌, OnOk};
-ghost use Rattle.gdb.specs.Consoles.{Shows, console_from, console_with, emptied, flush_text, sent_with};
+ghost use Rattle.gdb.specs.Consoles.{ShowsText, console_from, console_with, emptied, flush_text, sent_with};
 ghost use Rattle.gdb_texts.specs.Console.{console_packet};
 ghost use Rattle.output.specs.Output.{Put};
 
@@ -39,7 +39,6 @@ impl Console {
         }
     }
 
-    /// Returns the last byte.
     pub fn last(&self) -> Option<u8>
         ensures { result ≡ self.now.last }
     {
@@ -86,7 +85,7 @@ impl Console {
 
     /// Appends text, and sends each packet that it fills.
     pub fn put<W: Out>(&mut self, text: &[u8], out: &mut W) -> Result<(), IoError>
-        ensures { Shows (W.writing out.old) (W.writing out.new) self.old self.new text.now result }
+        ensures { ShowsText (W.writing out.old) (W.writing out.new) self.old self.new text.now result }
     {
         'bytes: for byte in text {
             match self.put_byte(*byte, out) {

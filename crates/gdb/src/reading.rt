@@ -6,16 +6,16 @@ ghost use Rattle.gdb_texts.specs.Bytes.{bytes_text};
 
 use arrayvec::ArrayVec;
 use gdb_texts::put_byte;
-use machine::{Decider, DueTicks, KeptCode, Levels, Machine};
+use machine::{Decider, Exceptions, KeptCode, Machine, SysTickState};
 
 /// The data of an answer.
 pub type Content = ArrayVec<u8, 4096>;
 
 /// The most bytes of memory in an answer.
-const MOST_READ: u32 = 2048;
+const MAX_READ: u32 = 2048;
 
 /// Returns the byte at an address, which may be beyond the address space.
-fn byte_seen<D: Decider, C: KeptCode, L: Levels, U: DueTicks>(
+fn byte_seen<D: Decider, C: KeptCode, L: Exceptions, U: SysTickState>(
     machine: &Machine<D, C, L, U>,
     address: u64,
 ) -> Option<u8>
@@ -29,7 +29,7 @@ fn byte_seen<D: Decider, C: KeptCode, L: Levels, U: DueTicks>(
 }
 
 /// Puts the digits of the bytes from an address on: at most `count` and 2,048, as many as follow without a gap.
-pub fn put_memory<D: Decider, C: KeptCode, L: Levels, U: DueTicks>(
+pub fn put_memory<D: Decider, C: KeptCode, L: Exceptions, U: SysTickState>(
     machine: &Machine<D, C, L, U>,
     address: u32,
     count: u32,
@@ -38,7 +38,7 @@ pub fn put_memory<D: Decider, C: KeptCode, L: Levels, U: DueTicks>(
     requires { page.old.items ≡ [] }
     ensures { page.new.items ≡ bytes_text (memory_read machine.now.state address count) }
 {
-    'bytes: for index in 0..count.min(MOST_READ) {
+    'bytes: for index in 0..count.min(MAX_READ) {
         match byte_seen(machine, u64::from(address) + u64::from(index)) {
             Some(byte) => put_byte(page, byte),
             None => return,

@@ -5,10 +5,10 @@ ghost use Rattle.gdb.specs.Targets.{place_of, register_written, target_values};
 ghost use Rattle.instruction_set.specs.Registers.{sp};
 
 use gdb_texts::REGISTERS;
-use machine::{Decider, DueTicks, KeptCode, Levels, Machine, Place};
+use machine::{Decider, Exceptions, KeptCode, Machine, Place, SysTickState};
 
 /// Returns SP, the stack pointer in use.
-fn stack_pointer<D: Decider, C: KeptCode, L: Levels, U: DueTicks>(
+fn stack_pointer<D: Decider, C: KeptCode, L: Exceptions, U: SysTickState>(
     machine: &Machine<D, C, L, U>,
 ) -> u32
     ensures { result ≡ sp machine.now.state.registers }
@@ -22,7 +22,7 @@ fn stack_pointer<D: Decider, C: KeptCode, L: Levels, U: DueTicks>(
 }
 
 /// Returns the values of all registers, in the order of their numbers.
-pub fn register_values<D: Decider, C: KeptCode, L: Levels, U: DueTicks>(
+pub fn register_values<D: Decider, C: KeptCode, L: Exceptions, U: SysTickState>(
     machine: &Machine<D, C, L, U>,
 ) -> [u32; REGISTERS]
     ensures { result ≡ target_values machine.now.state }

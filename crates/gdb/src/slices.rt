@@ -1,21 +1,21 @@
 //! The steps of a run, up to a reason to stop.
 
 ghost use Rattle.std.specs.Prelude.{◌≡◌, ◌+◌, ◌-◌, ◌^◌, ◌<◌, [], ◌∷◌, IfOk, OnOk};
-ghost use Rattle.gdb.specs.Consoles.{Shows, console_after, console_from, emptied, flush_text};
+ghost use Rattle.gdb.specs.Consoles.{ShowsText, console_after, console_from, emptied, flush_text};
 ghost use Rattle.gdb.specs.Slices.{Slices, flow, hit_next, one_step, slice};
 ghost use Rattle.gdb.specs.Watching.{IsReady, state_unless};
 ghost use Rattle.gdb.specs.Whys.{why_text};
 ghost use Rattle.gdb_past.specs.Places.{AreOfOneMachine};
 ghost use Rattle.output.specs.Output.{Put};
 ghost use Rattle.reference.specs.Step.{step};
-ghost use Rattle.serving.specs.Pieces.{Tells};
+ghost use Rattle.serving.specs.Pieces.{Delivers};
 
 use crate::console::Console;
 use crate::steps::{first_hit, is_continue, put_step, reason_after, reason_before, selection_of};
 use crate::whys::put_whys;
 use gdb_past::Position;
 use gdb_texts::{Breakpoints, Resume, Settings, StopReason, Watchpoints};
-use machine::{Decider, DueTicks, Events, KeptCode, Levels, Machine, is_instruction};
+use machine::{Decider, Events, Exceptions, KeptCode, Machine, SysTickState, is_instruction};
 use output::{IoError, Out};
 use platform::stop::Stop;
 use std::marker::Model;
@@ -93,7 +93,7 @@ impl Progress {
         stop: Option<Stop>,
         out: &mut W,
     ) -> Result<(), IoError>
-        ensures shows { Shows (W.writing out.old) (W.writing out.new) self.old.console self.new.console
+        ensures shows { ShowsText (W.writing out.old) (W.writing out.new) self.old.console self.new.console
             (why_text settings.now watchpoints.now self.old.events stop self.old.console.last) result }
         ensures kept { self.new ≡ record self.old { console = self.new.console } }
     {
@@ -107,8 +107,19 @@ impl Progress {
         )
     }
 
+    /// Makes a step, and keeps its events.
+    pub fn repeat<D: Decider, C: KeptCode, L: Exceptions, U: SysTickState>(
+        &mut self,
+        machine: &mut Machine<D, C, L, U>,
+    )
+        ensures kept { self.new ≡ record self.old { events = (step machine.old.state).events } }
+        ensures state { machine.new ≡ record machine.old { state = (step machine.old.state).state } }
+    {
+        let _ = machine.step(&mut self.events);
+    }
+
     /// Forgets the events of the last step.
-    fn forget(&mut self)
+    pub fn forget(&mut self)
         ensures { self.new ≡ record self.old { events = [] } }
     {
         self.events.clear();
@@ -116,7 +127,7 @@ impl Progress {
 }
 
 /// Makes the machine's state the position to go back to, where there are watchpoints.
-fn prepare<D: Decider, C: KeptCode, L: Levels, U: DueTicks>(
+fn prepare<D: Decider, C: KeptCode, L: Exceptions, U: SysTickState>(
     watchpoints: &Watchpoints,
     position: &mut Position<L, U>,
     machine: &Machine<D, C, L, U>,
@@ -131,7 +142,7 @@ fn prepare<D: Decider, C: KeptCode, L: Levels, U: DueTicks>(
 }
 
 /// Makes a step, unless it hits a watchpoint; then it returns this reason. `events` becomes the step's events.
-fn step_unless_hit<D: Decider, C: KeptCode, L: Levels, U: DueTicks>(
+fn step_unless_hit<D: Decider, C: KeptCode, L: Exceptions, U: SysTickState>(
     points: &Points,
     position: &mut Position<L, U>,
     events: &mut Events,
@@ -164,7 +175,7 @@ fn step_unless_hit<D: Decider, C: KeptCode, L: Levels, U: DueTicks>(
 
 /// Makes a step of a run, unless it hits a watchpoint, and puts its text. Returns why the run ends before or after it,
 /// if it does.
-fn make_step<D: Decider, C: KeptCode, L: Levels, U: DueTicks, W: Out>(
+fn make_step<D: Decider, C: KeptCode, L: Exceptions, U: SysTickState, W: Out>(
     plan: &Plan,
     points: &Points,
     position: &mut Position<L, U>,
@@ -175,7 +186,7 @@ fn make_step<D: Decider, C: KeptCode, L: Levels, U: DueTicks, W: Out>(
     requires room { progress.old.made < 2 ^ 64 - 1 }
     requires ready { IsReady points.now.watchpoints position.old machine.old.state }
     requires fits { AreOfOneMachine position.old machine.old.state }
-    ensures tells { Tells (one_step plan.now points.now (flow progress.old machine.old.state)).pieces machine.old
+    ensures delivers { Delivers (one_step plan.now points.now (flow progress.old machine.old.state)).pieces machine.old
         machine.new (W.writing out.old) (W.writing out.new) result }
     ensures slices { IfOk result (λ reason.
         Slices (one_step plan.now points.now (flow progress.old machine.old.state)) progress.new reason) }
@@ -205,7 +216,7 @@ fn make_step<D: Decider, C: KeptCode, L: Levels, U: DueTicks, W: Out>(
 
 /// Makes at most `steps` steps of a run that ends at these points. Returns why it ended, if it did. `position` is room
 /// for a state to go back to.
-pub fn run_slice<D: Decider, C: KeptCode, L: Levels, U: DueTicks, W: Out>(
+pub fn run_slice<D: Decider, C: KeptCode, L: Exceptions, U: SysTickState, W: Out>(
     plan: &Plan,
     points: &Points,
     steps: u64,
@@ -216,7 +227,8 @@ pub fn run_slice<D: Decider, C: KeptCode, L: Levels, U: DueTicks, W: Out>(
 ) -> Result<Option<StopReason>, IoError>
     requires room { progress.old.made + steps < 2 ^ 64 }
     requires fits { AreOfOneMachine position.old machine.old.state }
-    ensures tells { Tells (slice plan.now points.now steps (flow progress.old machine.old.state)).pieces machine.old
+    ensures delivers { Delivers (slice plan.now points.now steps (flow progress.old machine.old.state)).pieces
+        machine.old
         machine.new (W.writing out.old) (W.writing out.new) result }
     ensures slices { IfOk result (λ reason.
         Slices (slice plan.now points.now steps (flow progress.old machine.old.state)) progress.new reason) }

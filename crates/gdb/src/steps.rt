@@ -1,7 +1,7 @@
 //! The text of a step of a run, and whether the run ends before or after it.
 
 ghost use Rattle.std.specs.Prelude.{◌≡◌, [], ◌∷◌, is_some};
-ghost use Rattle.gdb.specs.Consoles.{Shows};
+ghost use Rattle.gdb.specs.Consoles.{ShowsText};
 ghost use Rattle.gdb.specs.Reasons.{cause_of, event_hit, first_cause, first_hit, has_entry, has_fault, is_continue};
 ghost use Rattle.gdb.specs.Reasons.{is_entry, leaves, reason_after};
 ghost use Rattle.gdb.specs.Reasons.{reason_at_breakpoint, reason_before, reason_of_events, selection_of};
@@ -13,7 +13,8 @@ use crate::console::Console;
 use debugger_commands::LineSelection;
 use gdb_texts::{Breakpoints, Resume, Settings, StopReason, WatchHit, Watchpoints};
 use machine::{
-    Decider, DueTicks, Event, KeptCode, Levels, Machine, TraceSelection, event_line, is_instruction,
+    Decider, Event, Exceptions, KeptCode, Machine, SysTickState, TraceSelection, event_line,
+    is_instruction,
 };
 use output::{IoError, Out};
 use platform::access::Cause;
@@ -40,7 +41,7 @@ fn put_event<W: Out>(
     console: &mut Console,
     out: &mut W,
 ) -> Result<(), IoError>
-    ensures { Shows (W.writing out.old) (W.writing out.new) console.old console.new
+    ensures { ShowsText (W.writing out.old) (W.writing out.new) console.old console.new
         (kinds_text selection (event.now ∷ [])) result }
 {
     if !selection.selects(&event.what) {
@@ -62,7 +63,7 @@ fn put_kinds<W: Out>(
     console: &mut Console,
     out: &mut W,
 ) -> Result<(), IoError>
-    ensures { Shows (W.writing out.old) (W.writing out.new) console.old console.new
+    ensures { ShowsText (W.writing out.old) (W.writing out.new) console.old console.new
         (kinds_text selection events.now) result }
 {
     'events: for event in events {
@@ -81,7 +82,7 @@ pub fn put_step<W: Out>(
     console: &mut Console,
     out: &mut W,
 ) -> Result<(), IoError>
-    ensures { Shows (W.writing out.old) (W.writing out.new) console.old console.new
+    ensures { ShowsText (W.writing out.old) (W.writing out.new) console.old console.new
         (selected_text selection events.now) result }
 {
     put_kinds(selection.of_step(events), events, console, out)
@@ -182,7 +183,7 @@ pub fn has_entry(events: &[Event]) -> bool
 }
 
 /// Returns why a run ends after a step with these events, by the settings.
-fn reason_of_events(settings: &Settings, events: &[Event]) -> Option<StopReason>
+pub fn reason_of_events(settings: &Settings, events: &[Event]) -> Option<StopReason>
     ensures { result ≡ reason_of_events settings.now events.now }
 {
     let cause = first_cause(events);
@@ -256,7 +257,7 @@ fn tests_breakpoints(how: Resume, made: u64) -> bool
 }
 
 /// Returns the reason of a breakpoint before the next step, if one is there.
-fn reason_at_breakpoint<D: Decider, C: KeptCode, L: Levels, U: DueTicks>(
+pub fn reason_at_breakpoint<D: Decider, C: KeptCode, L: Exceptions, U: SysTickState>(
     points: &Breakpoints,
     machine: &Machine<D, C, L, U>,
 ) -> Option<StopReason>
@@ -269,7 +270,7 @@ fn reason_at_breakpoint<D: Decider, C: KeptCode, L: Levels, U: DueTicks>(
 }
 
 /// Returns why a run with these breakpoints, to the tick `limit`, that has made some steps ends before its next one.
-pub fn reason_before<D: Decider, C: KeptCode, L: Levels, U: DueTicks>(
+pub fn reason_before<D: Decider, C: KeptCode, L: Exceptions, U: SysTickState>(
     points: &Breakpoints,
     limit: u64,
     how: Resume,

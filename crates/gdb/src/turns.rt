@@ -2,12 +2,12 @@
 
 ghost use Rattle.std.specs.Prelude.{◌≡◌, ◌+◌, ◌*◌, ◌^◌, ◌<◌, ◌≤◌, length, IfOk};
 ghost use Rattle.gdb.specs.Slices.{flow, slice};
-ghost use Rattle.gdb.specs.Turns.{Takes, all_slices, asked, ended, last_slice, steps_left, stop_packet, turn};
+ghost use Rattle.gdb.specs.Turns.{MakesTurn, all_slices, asked, ended, last_slice, steps_left, stop_packet, turn};
 ghost use Rattle.gdb_packets.specs.Replies.{packet_of};
 ghost use Rattle.gdb_past.specs.Places.{AreOfOneMachine};
 ghost use Rattle.output.specs.Output.{Put};
 ghost use Rattle.reference.specs.State.{State};
-ghost use Rattle.serving.specs.Pieces.{Tells};
+ghost use Rattle.serving.specs.Pieces.{Delivers};
 
 use crate::registers::register_values;
 use crate::slices::{Plan, Points, Progress, run_slice};
@@ -16,17 +16,17 @@ use arrayvec::ArrayVec;
 use gdb_packets::put_packet;
 use gdb_past::Position;
 use gdb_texts::{
-    Features, Resume, Settings, Signal, StopReason, Watchpoints, most_steps, put_stop_reply,
+    Features, Resume, Settings, Signal, StopReason, Watchpoints, max_steps, put_stop_reply,
     signal_of,
 };
-use machine::{Decider, DueTicks, KeptCode, Levels, Machine};
+use machine::{Decider, Exceptions, KeptCode, Machine, SysTickState};
 use output::{IoError, Out};
 
 /// The most steps before GDB is asked, and before the text of another client is sent.
-const STEPS_AT_ONCE: u64 = 1_000_000;
+pub const STEPS_AT_ONCE: u64 = 1_000_000;
 
 /// The question whether GDB's console is a terminal: GDB answers it at once, and says whether its user has interrupted.
-const QUESTION: &[u8] = b"Fisatty,0";
+pub const QUESTION: &[u8] = b"Fisatty,0";
 
 /// The last packet that was sent: what `-` asks for again.
 pub type SentPacket = ArrayVec<u8, 8200>;
@@ -76,7 +76,7 @@ pub fn send_packet<W: Out>(
 }
 
 /// Sends the stop reply of a reason.
-fn send_stop_reply<D: Decider, C: KeptCode, L: Levels, U: DueTicks, W: Out>(
+fn send_stop_reply<D: Decider, C: KeptCode, L: Exceptions, U: SysTickState, W: Out>(
     reason: StopReason,
     features: Features,
     sent: &mut SentPacket,
@@ -92,7 +92,7 @@ fn send_stop_reply<D: Decider, C: KeptCode, L: Levels, U: DueTicks, W: Out>(
 }
 
 /// Ends a run: puts the lines that say why, and sends all text, and then the stop reply.
-fn end_run<D: Decider, C: KeptCode, L: Levels, U: DueTicks, W: Out>(
+pub fn end_run<D: Decider, C: KeptCode, L: Exceptions, U: SysTickState, W: Out>(
     reason: StopReason,
     plan: &Plan,
     watchpoints: &Watchpoints,
@@ -102,8 +102,9 @@ fn end_run<D: Decider, C: KeptCode, L: Levels, U: DueTicks, W: Out>(
     machine: &Machine<D, C, L, U>,
     out: &mut W,
 ) -> Result<Turn, IoError>
-    ensures { Takes (ended plan.now.settings watchpoints.now features reason progress.old.events
-        (flow progress.old machine.now.state)) machine.now machine.now (W.writing out.old) (W.writing out.new) sent.new.items result }
+    ensures { MakesTurn (ended plan.now.settings watchpoints.now features reason progress.old.events
+        (flow progress.old machine.now.state)) machine.now machine.now (W.writing out.old) (W.writing out.new)
+        sent.new.items result }
 {
     match progress.put_whys(
         &plan.settings,
@@ -147,7 +148,7 @@ fn steps_left(budget: Option<u32>, made: u64) -> u64
 }
 
 /// Makes the last slice of a turn, of `steps` steps, and ends the run.
-fn last_slice<D: Decider, C: KeptCode, L: Levels, U: DueTicks, W: Out>(
+fn last_slice<D: Decider, C: KeptCode, L: Exceptions, U: SysTickState, W: Out>(
     plan: &Plan,
     terms: &Terms,
     steps: u64,
@@ -159,7 +160,7 @@ fn last_slice<D: Decider, C: KeptCode, L: Levels, U: DueTicks, W: Out>(
 ) -> Result<Turn, IoError>
     requires room { progress.old.made + steps < 2 ^ 64 }
     requires fits { AreOfOneMachine position.old machine.old.state }
-    ensures takes { Takes (last_slice plan.now terms.now.points.now.watchpoints terms.now.features
+    ensures takes { MakesTurn (last_slice plan.now terms.now.points.now.watchpoints terms.now.features
         (slice plan.now terms.now.points.now steps (flow progress.old machine.old.state)))
         machine.old machine.new (W.writing out.old) (W.writing out.new) sent.new.items result }
     ensures fits { AreOfOneMachine position.new machine.new.state }
@@ -185,7 +186,7 @@ fn last_slice<D: Decider, C: KeptCode, L: Levels, U: DueTicks, W: Out>(
 }
 
 /// Makes the slices of `left` steps, up to the end of the run or a question.
-fn make_slices<D: Decider, C: KeptCode, L: Levels, U: DueTicks, W: Out>(
+fn make_slices<D: Decider, C: KeptCode, L: Exceptions, U: SysTickState, W: Out>(
     plan: &Plan,
     terms: &Terms,
     left: u64,
@@ -197,7 +198,7 @@ fn make_slices<D: Decider, C: KeptCode, L: Levels, U: DueTicks, W: Out>(
 ) -> Result<Turn, IoError>
     requires room { progress.old.made + left < 2 ^ 64 }
     requires fits { AreOfOneMachine position.old machine.old.state }
-    ensures takes { Takes (all_slices plan.now terms.now.points.now terms.now.features left
+    ensures takes { MakesTurn (all_slices plan.now terms.now.points.now terms.now.features left
         (flow progress.old machine.old.state))
         machine.old machine.new (W.writing out.old) (W.writing out.new) sent.new.items result }
     ensures fits { AreOfOneMachine position.new machine.new.state }
@@ -249,7 +250,7 @@ fn make_slices<D: Decider, C: KeptCode, L: Levels, U: DueTicks, W: Out>(
 /// Makes a run's next steps: at most 1,000,000 before GDB is asked whether its user has interrupted; a client that
 /// isn't GDB isn't asked. Writes its text as it comes, and at the end the lines that say why, and the stop reply.
 /// `position` is room for a state to go back to.
-pub fn go_on<D: Decider, C: KeptCode, L: Levels, U: DueTicks, W: Out>(
+pub fn run_turn<D: Decider, C: KeptCode, L: Exceptions, U: SysTickState, W: Out>(
     run: Run,
     terms: &Terms,
     position: &mut Position<L, U>,
@@ -260,7 +261,7 @@ pub fn go_on<D: Decider, C: KeptCode, L: Levels, U: DueTicks, W: Out>(
     requires { AreOfOneMachine position.old machine.old.state }
     ensures fits { AreOfOneMachine position.new machine.new.state }
     ensures same { AreOfOneMachine machine.old.state machine.new.state }
-    ensures tells { Tells (turn terms.now.points.now terms.now.settings terms.now.features terms.now.limit run
+    ensures delivers { Delivers (turn terms.now.points.now terms.now.settings terms.now.features terms.now.limit run
         machine.old.state).pieces machine.old machine.new (W.writing out.old) (W.writing out.new) result }
     ensures outcome { IfOk result (λ ends. ends ≡ (turn terms.now.points.now terms.now.settings terms.now.features
         terms.now.limit run machine.old.state).outcome) }
@@ -286,7 +287,7 @@ pub fn go_on<D: Decider, C: KeptCode, L: Levels, U: DueTicks, W: Out>(
             out,
         );
     }
-    let left = steps_left(most_steps(terms.settings, terms.features.is_gdb), run.made);
+    let left = steps_left(max_steps(terms.settings, terms.features.is_gdb), run.made);
     make_slices(
         &plan,
         terms,

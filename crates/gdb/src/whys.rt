@@ -2,7 +2,7 @@
 
 ghost use Rattle.std.specs.Prelude.{◌≡◌, [], ◌∷◌};
 ghost use Rattle.std.specs.List.{list_any};
-ghost use Rattle.gdb.specs.Consoles.{Shows};
+ghost use Rattle.gdb.specs.Consoles.{ShowsText};
 ghost use Rattle.gdb.specs.Whys.{has_line, is_told, line_begun, lines_of, stop_text, stops_at, told_lines, told_stop};
 ghost use Rattle.gdb.specs.Whys.{why_text};
 ghost use Rattle.trace.specs.Selection.{is_refusal};
@@ -22,7 +22,7 @@ fn is_refusal(what: &EventKind) -> bool
     what.is_refused() || what.recorded_fault().is_some()
 }
 
-/// Returns whether the settings stop at an event.
+/// Returns whether a stop that the settings ask for may tell of an event.
 fn stops_at(settings: &Settings, what: &EventKind) -> bool
     ensures { result ≡ stops_at settings.now what.now }
 {
@@ -56,7 +56,7 @@ pub fn told_stop(reason: StopReason, before: Option<Stop>) -> Option<Stop>
     }
 }
 
-/// Returns whether the line of an event is still to be told.
+/// Returns whether one of some events has a line that is still to be told.
 fn has_told(settings: &Settings, watchpoints: &Watchpoints, events: &[Event]) -> bool
     ensures { result ≡ list_any (λ e. is_told settings.now watchpoints.now e.what) events.now }
 {
@@ -95,7 +95,7 @@ fn put_told_event<W: Out>(
     console: &mut Console,
     out: &mut W,
 ) -> Result<(), IoError>
-    ensures { Shows (W.writing out.old) (W.writing out.new) console.old console.new
+    ensures { ShowsText (W.writing out.old) (W.writing out.new) console.old console.new
         (told_lines settings.now watchpoints.now (event.now ∷ [])) result }
 {
     if is_told(settings, watchpoints, &event.what) {
@@ -112,7 +112,7 @@ fn put_told<W: Out>(
     console: &mut Console,
     out: &mut W,
 ) -> Result<(), IoError>
-    ensures { Shows (W.writing out.old) (W.writing out.new) console.old console.new
+    ensures { ShowsText (W.writing out.old) (W.writing out.new) console.old console.new
         (told_lines settings.now watchpoints.now events.now) result }
 {
     'events: for event in events {
@@ -126,7 +126,7 @@ fn put_told<W: Out>(
 
 /// Puts the line of a stop, if there is one.
 fn put_stop<W: Out>(stop: Option<Stop>, console: &mut Console, out: &mut W) -> Result<(), IoError>
-    ensures { Shows (W.writing out.old) (W.writing out.new) console.old console.new (stop_text stop) result }
+    ensures { ShowsText (W.writing out.old) (W.writing out.new) console.old console.new (stop_text stop) result }
 {
     match stop {
         Some(stop) => console.put(stop_line(&stop).as_slice(), out),
@@ -143,7 +143,7 @@ fn put_lines<W: Out>(
     console: &mut Console,
     out: &mut W,
 ) -> Result<(), IoError>
-    ensures { Shows (W.writing out.old) (W.writing out.new) console.old console.new
+    ensures { ShowsText (W.writing out.old) (W.writing out.new) console.old console.new
         (lines_of settings.now watchpoints.now events.now stop console.old.last) result }
 {
     let follows = has_line(settings, watchpoints, events, stop);
@@ -167,7 +167,7 @@ pub fn put_whys<W: Out>(
     console: &mut Console,
     out: &mut W,
 ) -> Result<(), IoError>
-    ensures { Shows (W.writing out.old) (W.writing out.new) console.old console.new
+    ensures { ShowsText (W.writing out.old) (W.writing out.new) console.old console.new
         (why_text settings.now watchpoints.now events.now stop console.old.last) result }
 {
     if settings.has_lines {

@@ -9,8 +9,8 @@ use Rattle.gdb_packets.specs.declared.framer.Place.{Place}
 use Rattle.gdb_packets.specs.declared.framer.Place.TheVariants.{Outside, Inside, FirstDigit, SecondDigit}
 
 -- the most bytes between `$` and `#`, escapes counted (profile)
-abbrev pub most_bytes : ℕ
-most_bytes = 4096
+abbrev pub max_bytes : ℕ
+max_bytes = 4096
 
 pub record Framing : Type 0 where
   -- where the next byte is
@@ -31,7 +31,7 @@ begun f = record f { place = Inside; raw = Some []; checksum = 0 }
 
 abbrev pub with_raw : Option (List ℕ) → ℕ → Option (List ℕ)
 with_raw None byte = None
-with_raw (Some raw) byte = if nat_lt (length raw) most_bytes then Some (raw ++ byte ∷ []) else None
+with_raw (Some raw) byte = if nat_lt (length raw) max_bytes then Some (raw ++ byte ∷ []) else None
 
 abbrev pub with_byte : Framing → ℕ → Framing
 with_byte f byte = record f { raw = with_raw f.raw byte; checksum = (f.checksum + byte) % 256 }

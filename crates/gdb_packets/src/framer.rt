@@ -10,7 +10,7 @@ use arrayvec::ArrayVec;
 use std::marker::Model;
 
 /// The most bytes between `$` and `#`, escapes counted.
-pub const MOST_BYTES: usize = 4096;
+pub const MAX_BYTES: usize = 4096;
 
 /// Where the next byte is.
 #[derive(Clone, Copy)]
@@ -48,10 +48,10 @@ pub enum Event {
 #[derive(Drop)]
 pub struct Framer {
     place: Place,
-    raw: ArrayVec<u8, MOST_BYTES>,
+    raw: ArrayVec<u8, MAX_BYTES>,
     is_long: bool,
     checksum: u8,
-    content: ArrayVec<u8, MOST_BYTES>,
+    content: ArrayVec<u8, MAX_BYTES>,
 }
 
 impl Model for Framer {
@@ -146,7 +146,7 @@ impl Framer {
     fn push_raw(&mut self, byte: u8)
         ensures { self.new ≡ with_byte self.old byte }
     {
-        if self.raw.len() < MOST_BYTES {
+        if self.raw.len() < MAX_BYTES {
             self.raw.push(byte);
         } else {
             self.is_long = true;

@@ -10,7 +10,7 @@ mod parts;
 mod replies;
 
 pub use digits::{byte_of, digit_of};
-pub use framer::{Event, Framer, MOST_BYTES, Place};
+pub use framer::{Event, Framer, MAX_BYTES, Place};
 pub use numbers::{number, two_numbers};
 pub use packets::{Packet, PointKind, Request, read_packet};
 pub use parts::{Parts, parted};

@@ -1,6 +1,6 @@
 -- What is kept of a machine's past (profile).
 use Rattle.reference.specs.State.{State}
-use Rattle.std.specs.Prelude.{◌≡◌, ℕ, Bool, List, [], ◌∷◌, length}
+use Rattle.std.specs.Prelude.{◌≡◌, ℕ, suc, nat_lt, Bool, if◌then◌else◌, List, [], ◌∷◌, length, take}
 use Rattle.devices.specs.declared.device.Device.{Device}
 use Rattle.devices.specs.Devices.{DeviceWords}
 use Rattle.platform.specs.Memory.{Memory}
@@ -8,10 +8,33 @@ use Rattle.platform.specs.Memory.{Memory}
 pub record Past : Type 0 where
   -- the state before the first step of the session
   pub start : State
+  -- the states to which a session can go back, the last one first: after the last write at each tick at which something
+  -- was written, and before them the state before the first step
+  pub marks : List State
 
--- before the first step
+abbrev pub tick_of : State → ℕ
+tick_of s = s.bus.system.time.ticks
+
+-- before the first step, and after the session begins anew
 abbrev pub past_from : State → Past
-past_from s = record { start = s }
+past_from s = record { start = s; marks = s ∷ [] }
+
+-- the most marks: the last ones are kept (profile)
+abbrev pub most_marks : ℕ
+most_marks = 8
+
+-- the marks before a tick
+abbrev pub below : ℕ → List State → List State
+below tick [] = []
+below tick (m ∷ marks) = if nat_lt (tick_of m) tick then m ∷ marks else below tick marks
+
+-- the marks up to a tick
+abbrev pub up_to : ℕ → List State → List State
+up_to tick marks = below (suc tick) marks
+
+-- after a write, which left this state
+abbrev pub marked : Past → State → Past
+marked past s = record past { marks = take most_marks (s ∷ below (tick_of s) past.marks) }
 
 -- where a block of memory is, and whether a store may change it
 pub record Extent : Type 0 where

@@ -1,27 +1,95 @@
 //! What a session keeps of a machine's past.
 
-ghost use Rattle.std.specs.Prelude.{◌≡◌, IfOk};
-ghost use Rattle.gdb_past.specs.Places.{AreOfOneMachine, past_from};
+ghost use Rattle.std.specs.Prelude.{◌≡◌, ◌<◌, ◌≤◌, ◌∷◌, drop, length, slice_index_or, take, IfOk};
+ghost use Rattle.gdb_past.specs.Places.{AreOfOneMachine, below, marked, most_marks, past_from, tick_of};
+ghost use Rattle.reference.specs.State.{State};
 
-use machine::{Decider, DueTicks, Kept, KeptCode, Levels, Machine};
+use machine::{Decider, Exceptions, Kept, KeptCode, Machine, SysTickState};
 use std::alloc::{AllocError, Global};
 use std::marker::Model;
 
-/// What a session keeps of a machine's past.
+/// The most marks.
+const MAX_MARKS: usize = 8;
+
+/// Room for a mark: a state to which a session can go back, and its tick.
 #[derive(Drop)]
-pub struct Past<L: Levels, U: DueTicks> {
-    start: Kept<L, U>,
+struct Mark<L: Exceptions, U: SysTickState> {
+    kept: Kept<L, U>,
+    tick: u64,
 }
 
-impl<L: Levels, U: DueTicks> Model for Past<L, U> {
+impl<L: Exceptions, U: SysTickState> Model for Mark<L, U> {
+    ghost use Rattle.std.specs.Prelude.{◌≡◌};
+    ghost use Rattle.gdb_past.specs.Places.{tick_of};
+    ghost use Rattle.reference.specs.State.{State};
+
+    ghost Value = { State };
+
+    ghost view = { λ m. m.kept };
+
+    ghost invariant = { λ m. m.tick ≡ tick_of m.kept };
+}
+
+impl<L: Exceptions, U: SysTickState> Mark<L, U> {
+    /// Returns the mark of a machine's state, or fails where memory can't be allocated.
+    fn of<D: Decider, C: KeptCode>(
+        alloc: Global,
+        machine: &Machine<D, C, L, U>,
+    ) -> Result<Self, AllocError>
+        ensures { IfOk result (λ mark. mark ≡ machine.now.state) }
+    {
+        Ok(Mark {
+            kept: machine.copied(alloc)?,
+            tick: machine.ticks(),
+        })
+    }
+
+    fn tick(&self) -> u64
+        ensures { result ≡ tick_of self.now }
+    {
+        self.tick
+    }
+
+    /// Becomes the mark of a machine's state.
+    fn set<D: Decider, C: KeptCode>(&mut self, machine: &Machine<D, C, L, U>)
+        requires { AreOfOneMachine self.old machine.now.state }
+        ensures { self.new ≡ machine.now.state }
+    {
+        machine.keep(&mut self.kept);
+        self.tick = machine.ticks();
+    }
+
+    /// Takes the machine back to this state.
+    fn restore<D: Decider, C: KeptCode>(&self, machine: &mut Machine<D, C, L, U>)
+        requires { AreOfOneMachine machine.old.state self.now }
+        ensures { machine.new ≡ record machine.old { state = self.now } }
+    {
+        machine.take_back(&self.kept);
+    }
+}
+
+/// What a session keeps of a machine's past.
+#[derive(Drop)]
+pub struct Past<L: Exceptions, U: SysTickState> {
+    start: Kept<L, U>,
+    /// Room for the marks, of which the first `count` are set.
+    marks: Vec<Mark<L, U>>,
+    count: usize,
+}
+
+impl<L: Exceptions, U: SysTickState> Model for Past<L, U> {
+    ghost use Rattle.std.specs.Prelude.{take};
     ghost use Rattle.gdb_past.specs.Places.{Past as PastView};
+    ghost use Rattle.gdb_past.specs.Rooms.{HasRoom};
 
     ghost Value = { PastView };
 
-    ghost view = { λ p. record { start = p.start } };
+    ghost view = { λ p. record { start = p.start; marks = take p.count p.marks.items } };
+
+    ghost invariant = { λ p. HasRoom p.start p.marks.items p.count };
 }
 
-impl<L: Levels, U: DueTicks> Past<L, U> {
+impl<L: Exceptions, U: SysTickState> Past<L, U> {
     /// Returns what is kept before the first step, or fails where memory can't be allocated.
     pub fn new<D: Decider, C: KeptCode>(
         alloc: Global,
@@ -29,16 +97,102 @@ impl<L: Levels, U: DueTicks> Past<L, U> {
     ) -> Result<Self, AllocError>
         ensures { IfOk result (λ past. past ≡ past_from machine.now.state) }
     {
+        let start = machine.copied(alloc)?;
+        let mut marks = Vec::new(alloc);
+        'marks: for number in 0..MAX_MARKS {
+            let _ = number;
+            marks.push(Mark::of(alloc, machine)?)?;
+        }
         Ok(Past {
-            start: machine.copied(alloc)?,
+            start,
+            marks,
+            count: 1,
         })
     }
 
-    /// Takes the machine back to the state before the first step.
-    pub fn restart<D: Decider, C: KeptCode>(&self, machine: &mut Machine<D, C, L, U>)
-        requires { AreOfOneMachine machine.old.state self.now.start }
-        ensures { machine.new ≡ record machine.old { state = self.now.start } }
+    /// Returns how many marks there are.
+    pub fn count(&self) -> usize
+        ensures count { result ≡ length self.now.marks }
+        ensures some { 0 < result }
+        ensures few { result ≤ most_marks }
+    {
+        self.count
+    }
+
+    /// Returns the tick of a mark, by its number from the last one.
+    pub fn tick(&self, number: usize) -> u64
+        requires { number < length self.now.marks }
+        ensures { (m : State) → result ≡ tick_of (slice_index_or self.now.marks number m) }
+    {
+        self.marks[number].tick()
+    }
+
+    /// Takes the machine back to a mark, by its number from the last one.
+    pub fn restore<D: Decider, C: KeptCode>(&self, number: usize, machine: &mut Machine<D, C, L, U>)
+        requires number { number < length self.now.marks }
+        requires fits { AreOfOneMachine self.now.start machine.old.state }
+        ensures state { (m : State) →
+            machine.new ≡ record machine.old { state = slice_index_or self.now.marks number m } }
+        ensures same { AreOfOneMachine self.now.start machine.new.state }
+    {
+        self.marks[number].restore(machine);
+    }
+
+    /// Forgets the last marks, so many.
+    pub fn forget(&mut self, count: usize)
+        requires { count < length self.old.marks }
+        ensures { self.new ≡ record self.old { marks = drop count self.old.marks } }
+    {
+        self.marks.rotate_left(count);
+        self.count -= count;
+    }
+
+    /// Returns how many marks there are from a tick on.
+    fn number_from(&self, tick: u64) -> usize
+        ensures few { result ≤ length self.now.marks }
+        ensures rest { drop result self.now.marks ≡ below tick self.now.marks }
+    {
+        let count = self.count();
+        'marks: for number in 0..count {
+            if self.tick(number) < tick {
+                return number;
+            }
+        }
+        count
+    }
+
+    /// Makes the machine's state the last mark in the place of the last `count` ones. Where there is room for no other,
+    /// the first mark is forgotten.
+    fn put_after<D: Decider, C: KeptCode>(&mut self, count: usize, machine: &Machine<D, C, L, U>)
+        requires few { count ≤ length self.old.marks }
+        requires fits { AreOfOneMachine self.old.start machine.now.state }
+        ensures { self.new ≡ record self.old {
+          marks = take most_marks (machine.now.state ∷ drop count self.old.marks);
+        } }
+    {
+        self.marks.rotate_left(count);
+        self.marks.rotate_right(1);
+        self.marks[0].set(machine);
+        self.count = (self.count - count + 1).min(MAX_MARKS);
+    }
+
+    /// Marks the machine's state after a write.
+    pub fn mark<D: Decider, C: KeptCode>(&mut self, machine: &Machine<D, C, L, U>)
+        requires { AreOfOneMachine self.old.start machine.now.state }
+        ensures { self.new ≡ marked self.old machine.now.state }
+    {
+        let count = self.number_from(machine.ticks());
+        self.put_after(count, machine);
+    }
+
+    /// Takes the machine back to the state before the first step, which becomes the only mark.
+    pub fn restart<D: Decider, C: KeptCode>(&mut self, machine: &mut Machine<D, C, L, U>)
+        requires { AreOfOneMachine machine.old.state self.old.start }
+        ensures machine { machine.new ≡ record machine.old { state = self.old.start } }
+        ensures past { self.new ≡ past_from self.old.start }
     {
         machine.take_back(&self.start);
+        let count = self.count();
+        self.put_after(count, machine);
     }
 }

@@ -5,22 +5,22 @@ ghost use Rattle.gdb_past.specs.Places.{AreOfOneMachine};
 ghost use Rattle.reference.specs.Run.{after};
 ghost use Rattle.reference.specs.Step.{step};
 
-use machine::{Decider, DueTicks, Events, Kept, KeptCode, Levels, Machine};
+use machine::{Decider, Events, Exceptions, Kept, KeptCode, Machine, SysTickState};
 use std::alloc::{AllocError, Global};
 use std::marker::Model;
 
-/// The most steps from a copy to the state that it is kept for. A copy is made after so many steps, and so many are
-/// made again at most to go back.
-const MOST_STEPS: u32 = 16_384;
+/// The most steps from a copy to the state that it is kept for. Then a new copy is made, so that going back repeats at
+/// most this many.
+const MAX_STEPS: u32 = 16_384;
 
 /// A state to go back to: a copy of an earlier one, and the number of steps from there.
 #[derive(Drop)]
-pub struct Position<L: Levels, U: DueTicks> {
+pub struct Position<L: Exceptions, U: SysTickState> {
     kept: Kept<L, U>,
     steps: u32,
 }
 
-impl<L: Levels, U: DueTicks> Model for Position<L, U> {
+impl<L: Exceptions, U: SysTickState> Model for Position<L, U> {
     ghost use Rattle.reference.specs.Run.{after};
     ghost use Rattle.reference.specs.State.{State};
 
@@ -29,7 +29,7 @@ impl<L: Levels, U: DueTicks> Model for Position<L, U> {
     ghost view = { λ p. after p.steps p.kept };
 }
 
-impl<L: Levels, U: DueTicks> Position<L, U> {
+impl<L: Exceptions, U: SysTickState> Position<L, U> {
     /// Returns the position of a machine, or fails where memory can't be allocated.
     pub fn new<D: Decider, C: KeptCode>(
         alloc: Global,
@@ -57,7 +57,7 @@ impl<L: Levels, U: DueTicks> Position<L, U> {
         requires { machine.now.state ≡ (step self.old).state }
         ensures { self.new ≡ machine.now.state }
     {
-        if self.steps < MOST_STEPS {
+        if self.steps < MAX_STEPS {
             self.steps += 1;
         } else {
             self.take(machine);
@@ -75,7 +75,7 @@ impl<L: Levels, U: DueTicks> Position<L, U> {
 }
 
 /// Makes steps, and writes nothing.
-pub fn make_steps<D: Decider, C: KeptCode, L: Levels, U: DueTicks>(
+pub fn make_steps<D: Decider, C: KeptCode, L: Exceptions, U: SysTickState>(
     machine: &mut Machine<D, C, L, U>,
     count: u64,
 )

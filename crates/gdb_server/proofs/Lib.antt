@@ -3,3 +3,4 @@ mod Keeping
 pub mod Putting
 mod Sizes
 pub mod Writing
+mod Marking

@@ -2,10 +2,10 @@
 use Rattle.std.proofs.Common.{◌+◌, ℕ, List, ◌++◌, Result, Ok, Err, ◌∙◌, ap}
 use Rattle.std.proofs.KnownBytes.{Appends-trans}
 use Rattle.gdb.proofs.Showing.{cut_later}
-use Rattle.machine.specs.Whole.{Whole}
+use Rattle.machine.specs.MachineModel.{MachineModel}
 use Rattle.output.specs.Output.{Put, Writing, WritesAll}
-use Rattle.serving.proofs.Telling.{cut_on, tells_on}
-use Rattle.serving.specs.Pieces.{Piece, Tells, TellsAll}
+use Rattle.serving.proofs.Delivering.{cut_on, delivers_on}
+use Rattle.serving.specs.Pieces.{Piece, Delivers, DeliversAll}
 
 -- a text was put, and then more, or a part of it
 pub put_on : {E : Type 0} (a b e : Writing) (text more : List ℕ) (result : Result (Unit {0}) E) → WritesAll a b text
@@ -18,7 +18,8 @@ put_on a b e text more (Err error) first then = (
 )
 
 -- some pieces went out, and then more, or some of them
-pub tells_then : {A E : Type 0} (xs ys : List Piece) (old mid new : Whole) (a b c : Writing) (result : Result A E)
-    → TellsAll xs old mid a b → Tells ys mid new b c result → Tells (xs ++ ys) old new a c result
-tells_then xs ys old mid new a b c (Ok done) first then = tells_on xs ys old mid new a b c first then
-tells_then xs ys old mid new a b c (Err error) first then = cut_on xs ys old mid new a b c first then
+pub delivers_then : {A E : Type 0} (xs ys : List Piece) (old mid new : MachineModel) (a b c : Writing)
+    (result : Result A E)
+    → DeliversAll xs old mid a b → Delivers ys mid new b c result → Delivers (xs ++ ys) old new a c result
+delivers_then xs ys old mid new a b c (Ok done) first then = delivers_on xs ys old mid new a b c first then
+delivers_then xs ys old mid new a b c (Err error) first then = cut_on xs ys old mid new a b c first then

@@ -1,8 +1,8 @@
 -- What is written keeps the sizes of memory and the devices.
-use Rattle.std.proofs.Common.{◌≡◌, ◌+◌, ◌*◌, ◌/◌, ◌%◌, ◌^◌, ◌==◌, ◌||◌, ◌&&◌, ℕ, zero, suc, Bool, true, false, not}
-use Rattle.std.proofs.Common.{List, [], ◌∷◌, length, is_some, refl, Option, Some, None, Result, Ok, Err}
+use Rattle.std.proofs.Common.{◌+◌, ◌*◌, ◌/◌, ◌%◌, ◌==◌, ◌||◌, ℕ, zero, suc, not}
+use Rattle.std.proofs.Common.{List, [], ◌∷◌, length, is_some, Option, Some, None, Result, Ok, Err}
 use Rattle.std.proofs.lemmas.Bool.{cond_both}
-use Rattle.gdb.specs.Targets.{altered_if, place_of, register_written}
+use Rattle.gdb.specs.Targets.{altered_if, place_of}
 use Rattle.gdb_past.proofs.Following.{board_alike, same_refl, same_trans}
 use Rattle.gdb_past.specs.Places.{AreOfOneMachine}
 use Rattle.gdb_server.specs.Commands.{placed_by}
@@ -10,7 +10,7 @@ use Rattle.gdb_server.specs.Replies.{bytes_in}
 use Rattle.gdb_server.specs.declared.purposes.MachineChange.{MachineChange}
 use Rattle.gdb_server.specs.declared.purposes.MachineChange.TheVariants as change
 use Rattle.gdb_server.specs.Writes.{Written, after_place, are_there, block_written, done, later_unless, memory_written}
-use Rattle.gdb_server.specs.Writes.{is_of_device, one_register, refused, register_after, registers_from, unless_refused, with_byte}
+use Rattle.gdb_server.specs.Writes.{is_of_device, one_register, refused, register_after, registers_from, with_byte}
 use Rattle.gdb_server.specs.Writes.{with_bytes, word_beside, word_of, word_written, written}
 use Rattle.gdb_texts.specs.declared.monitor.Monitor.{Monitor}
 use Rattle.gdb_texts.specs.declared.monitor.Monitor.TheVariants as monitor

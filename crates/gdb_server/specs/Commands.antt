@@ -1,5 +1,6 @@
 -- The commands of `monitor` (GDB manual, "General Query Packets", qRcmd; the commands are a choice of this project).
-use Rattle.std.specs.Prelude.{ℕ, Bool, true, false, if◌then◌else◌, List, ◌++◌, codes, Option, Some, None}
+use Rattle.std.specs.Prelude.{ℕ, Bool, true, false, if◌then◌else◌, List, [], ◌∷◌, ◌++◌, codes, decimal}
+use Rattle.std.specs.Prelude.{Option, Some, None}
 use Rattle.std.specs.Prelude.{Result, Ok, Err}
 use Rattle.debugger.specs.Answers.{next_text, refusal_text}
 use Rattle.debugger.specs.StateText.{state_text}
@@ -9,6 +10,7 @@ use Rattle.debugger_commands.specs.Settings.{ok_text}
 use Rattle.debugger_commands.specs.Texts.{decision_text, error_text, region_lines}
 use Rattle.gdb.specs.Consoles.{console_after, console_from, flush_text, sent_by}
 use Rattle.gdb.specs.Targets.{altered_if}
+use Rattle.gdb_past.specs.Places.{Past, tick_of}
 use Rattle.gdb_server.specs.Replies.{bytes_in}
 use Rattle.gdb_server.specs.Writes.{Written, after_place, done}
 use Rattle.gdb_texts.specs.Monitor.{monitor_of}
@@ -20,7 +22,7 @@ use Rattle.gdb_texts.specs.declared.replies.ErrorCode.{ErrorCode}
 use Rattle.gdb_texts.specs.declared.settings.Settings.{Settings}
 use Rattle.platform.specs.declared.access.Decision.{Decision}
 use Rattle.platform.specs.declared.error.PlaceError.{PlaceError}
-use Rattle.platform.specs.declared.mpu.TheConstants.{MOST_REGIONS}
+use Rattle.platform.specs.declared.mpu.TheConstants.{MAX_REGIONS}
 use Rattle.platform.specs.Priorities.{is_below_zero}
 use Rattle.platform.specs.Rules.{decision_of}
 use Rattle.platform.specs.Text.{line_feed}
@@ -28,14 +30,14 @@ use Rattle.reference.specs.State.{State}
 
 -- ---- reading a command
 
--- whether a command is known. Those of going back in time and of steps over handlers aren't (profile)
+-- whether a command is known. That of steps over handlers isn't (profile)
 abbrev pub is_known : Monitor → Bool
 is_known monitor.Help = true
 is_known (monitor.Explain a privileged kind) = true
 is_known monitor.Regions = true
 is_known monitor.State = true
 is_known monitor.Next = true
-is_known monitor.History = false
+is_known monitor.History = true
 is_known (monitor.Trace selection) = true
 is_known (monitor.Lines on) = true
 is_known (monitor.Stop what on) = true
@@ -79,6 +81,10 @@ placed_by first s (Err why) = done s
 
 -- ---- the text of a command
 
+-- the tick of a state, as a line
+abbrev pub tick_line : State → List ℕ
+tick_line s = decimal (tick_of s) ++ line_feed
+
 -- the rule of a decision, and what it means
 abbrev pub decided_text : Decision → List ℕ
 decided_text d = decision_text d ++ explanation d
@@ -92,24 +98,33 @@ abbrev pub placed_text : Option PlaceError → List ℕ
 placed_text None = flush_advice
 placed_text (Some why) = refusal_text why
 
+-- the ticks of the marks, the first one first, a line each
+abbrev pub mark_lines : List State → List ℕ
+mark_lines [] = []
+mark_lines (m ∷ marks) = mark_lines marks ++ tick_line m
+
+-- and the tick now
+abbrev pub history_text : Past → State → List ℕ
+history_text past s = mark_lines past.marks ++ (codes "now " ++ tick_line s)
+
 -- the text of a command after the last refusal of a packet, whose value was refused or not
-abbrev pub command_text : State → Option ErrorCode → Option PlaceError → Result Monitor LineError → List ℕ
-command_text s why refused (Ok monitor.Help) = monitor_help
-command_text s why refused (Ok (monitor.Explain a privileged kind)) =
+abbrev pub command_text : Past → State → Option ErrorCode → Option PlaceError → Result Monitor LineError → List ℕ
+command_text past s why refused (Ok monitor.Help) = monitor_help
+command_text past s why refused (Ok (monitor.Explain a privileged kind)) =
     decided_text (decision_of s.bus.system.mpu a kind privileged (is_below_zero s.bus.system.nvic))
-command_text s why refused (Ok monitor.Regions) = region_lines s.bus.system.mpu MOST_REGIONS
-command_text s why refused (Ok monitor.State) = state_text s
-command_text s why refused (Ok monitor.Next) = next_text s
-command_text s why refused (Ok monitor.History) = error_text error.Command
-command_text s why refused (Ok (monitor.Trace selection)) = ok_text
-command_text s why refused (Ok (monitor.Lines on)) = ok_text
-command_text s why refused (Ok (monitor.Stop what on)) = ok_text
-command_text s why refused (Ok (monitor.Step over)) = error_text error.Command
-command_text s why refused (Ok (monitor.Budget steps)) = ok_text
-command_text s why refused (Ok (monitor.Place place)) = placed_text refused
-command_text s why refused (Ok monitor.Restart) = flush_advice
-command_text s why refused (Ok monitor.Why) = why_text why
-command_text s why refused (Err wrong) = error_text wrong
+command_text past s why refused (Ok monitor.Regions) = region_lines s.bus.system.mpu MAX_REGIONS
+command_text past s why refused (Ok monitor.State) = state_text s
+command_text past s why refused (Ok monitor.Next) = next_text s
+command_text past s why refused (Ok monitor.History) = history_text past s
+command_text past s why refused (Ok (monitor.Trace selection)) = ok_text
+command_text past s why refused (Ok (monitor.Lines on)) = ok_text
+command_text past s why refused (Ok (monitor.Stop what on)) = ok_text
+command_text past s why refused (Ok (monitor.Step over)) = error_text error.Command
+command_text past s why refused (Ok (monitor.Budget steps)) = ok_text
+command_text past s why refused (Ok (monitor.Place place)) = placed_text refused
+command_text past s why refused (Ok monitor.Restart) = flush_advice
+command_text past s why refused (Ok monitor.Why) = why_text why
+command_text past s why refused (Err wrong) = error_text wrong
 
 -- the packets of a text for GDB's console
 abbrev pub console_text : List ℕ → List ℕ

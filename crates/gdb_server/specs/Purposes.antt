@@ -1,5 +1,6 @@
 -- What a packet asks of a server at rest (GDB manual, "Packets", "General Query Packets").
 use Rattle.std.specs.Prelude.{ℕ, Bool, true, false, List, Option, Some, None}
+use Rattle.gdb.specs.declared.searches.Way.TheVariants as way
 use Rattle.gdb_packets.specs.declared.packets.PointKind.{PointKind}
 use Rattle.gdb_packets.specs.declared.packets.PointKind.TheVariants as point
 use Rattle.gdb_packets.specs.declared.packets.Request.{Request}
@@ -62,8 +63,8 @@ purpose_of request.Continue tail = purpose.Resume resume.Continue
 purpose_of request.Step tail = purpose.Resume resume.Step
 purpose_of request.ResumeActions tail = purpose.Say constant.ResumeActions
 purpose_of request.Resume tail = resumption (actions_of tail)
-purpose_of request.ReverseStep tail = purpose.Say constant.Empty  -- not known (profile)
-purpose_of request.ReverseContinue tail = purpose.Say constant.Empty  -- not known (profile)
+purpose_of request.ReverseStep tail = purpose.Back way.Step
+purpose_of request.ReverseContinue tail = purpose.Back way.Continue
 purpose_of (request.Insert k a n) tail = purpose.Set (insertion_of k a n)
 purpose_of (request.Remove k a n) tail = purpose.Set (removal_of k a n)
 purpose_of (request.ReadDescription at n) tail = purpose.Read (reading.Description at n)

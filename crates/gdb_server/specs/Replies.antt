@@ -43,7 +43,7 @@ constant_text constant.MoreThreads = codes "l"
 abbrev pub server_features : List ℕ
 server_features =
     codes "PacketSize=1000;QStartNoAckMode+;qXfer:features:read+;qXfer:memory-map:read+;"
-    ++ codes "vContSupported+;swbreak+;hwbreak+"
+    ++ codes "vContSupported+;ReverseStep+;ReverseContinue+;swbreak+;hwbreak+"
 
 -- ---- digits as bytes: two for each, at most as many bytes as a packet has
 

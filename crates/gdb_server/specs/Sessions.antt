@@ -2,11 +2,11 @@
 use Rattle.std.specs.Prelude.{ℕ, Bool, true, false, List, [], codes, Option, Some, None, Result, Ok, Err}
 use Rattle.devices.specs.declared.device.Device.{Device}
 use Rattle.gdb.specs.declared.slices.Points.{Points}
-use Rattle.gdb.specs.declared.turns.Run.{Run}
 use Rattle.gdb_past.specs.Places.{Past, past_from}
 use Rattle.gdb_packets.specs.Replies.{packet_of}
 use Rattle.gdb_server.specs.Replies.{server_features}
 use Rattle.gdb_server.specs.declared.purposes.SessionChange.{SessionChange}
+use Rattle.gdb_server.specs.declared.waiting.Waiting.{Waiting}
 use Rattle.gdb_server.specs.declared.purposes.SessionChange.TheVariants as change
 use Rattle.gdb_texts.specs.Features.{features_of}
 use Rattle.gdb_texts.specs.Points.{insertion, with_breakpoint, without_breakpoint}
@@ -36,8 +36,8 @@ pub record Session : Type 0 where
   pub acknowledges : Bool
   -- the last packet that was sent
   pub sent : List ℕ
-  -- the run that GDB has been asked about, if one waits for the reply
-  pub running : Option Run
+  -- what GDB has been asked about, if something waits for the reply
+  pub running : Option Waiting
   -- why the last packet was refused that was
   pub refused : Option ErrorCode
   pub is_open : Bool

@@ -1,5 +1,6 @@
 -- The packets that write to the machine (GDB manual, "Packets", G, M, P and X).
-use Rattle.std.specs.Prelude.{◌≡◌, ℕ, zero, suc, ◌+◌, ◌-◌, ◌*◌, ◌/◌, ◌%◌, ◌^◌, nat_lt, nat_le, Bool, false, not, ◌&&◌}
+use Rattle.std.specs.Prelude.{◌≡◌, ℕ, zero, suc, ◌+◌, ◌*◌, ◌/◌, ◌%◌, ◌^◌, nat_le, Bool, true, not}
+use Rattle.std.specs.Prelude.{◌&&◌}
 use Rattle.std.specs.Prelude.{◌||◌, ◌==◌, if◌then◌else◌, is_some, List, [], ◌∷◌, length, slice_index, unwrap_or}
 use Rattle.std.specs.Prelude.{Option, Some, None, Result, Ok, Err}
 use Rattle.gdb.specs.Targets.{register_written}
@@ -7,7 +8,7 @@ use Rattle.gdb_server.specs.Replies.{bytes_in}
 use Rattle.gdb_server.specs.declared.purposes.MachineChange.{MachineChange}
 use Rattle.gdb_server.specs.declared.purposes.MachineChange.TheVariants as change
 use Rattle.gdb_texts.specs.Registers.{word_at, written_register}
-use Rattle.machine.specs.Whole.{Whole}
+use Rattle.machine.specs.MachineModel.{MachineModel}
 use Rattle.platform.specs.Map.{is_in_ppb}
 use Rattle.platform.specs.Memory.{Memory, byte_at, is_in_memory}
 use Rattle.platform.specs.declared.error.PlaceError.{PlaceError}
@@ -34,7 +35,7 @@ after_place s (Ok after) = done after
 after_place s (Err error) = refused s error
 
 -- a machine after a write, which returned why it was refused
-abbrev pub Writes : Written → Whole → Whole → Option PlaceError → Type 0
+abbrev pub Writes : Written → MachineModel → MachineModel → Option PlaceError → Type 0
 Writes w old new why = (new ≡ record old { state = w.state }) × (why ≡ w.refused)
 
 -- ---- P and G
@@ -123,6 +124,13 @@ memory_written s a bytes =
     else word_written s a bytes
 
 -- ---- all of these
+
+-- whether a packet writes something: M and X may have no bytes
+abbrev pub writes : MachineChange → List ℕ → Bool
+writes (change.Register n) tail = true
+writes change.Registers tail = true
+writes (change.Digits a) tail = not (length tail == 0)
+writes (change.Bytes a) tail = not (length tail == 0)
 
 -- what a packet writes, by what follows its fields
 abbrev pub written : State → MachineChange → List ℕ → Written

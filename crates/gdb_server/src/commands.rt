@@ -1,11 +1,14 @@
 //! The commands of `monitor`.
 
-ghost use Rattle.std.specs.Prelude.{◌≡◌};
+ghost use Rattle.std.specs.Prelude.{◌≡◌, ◌+◌, ◌≤◌, ◌++◌, true, decimal, length};
+ghost use Rattle.gdb.specs.Targets.{altered_if};
+ghost use Rattle.platform.specs.Text.{line_feed};
 ghost use Rattle.debugger.specs.Answers.{next_text};
 ghost use Rattle.gdb_server.specs.Commands.{command_of, command_text, console_text, decided_text, flush_advice};
 ghost use Rattle.gdb_server.specs.Commands.{is_known, known};
-ghost use Rattle.gdb_server.specs.Commands.{placed_by, placed_text, settings_with};
-ghost use Rattle.gdb_server.specs.Writes.{Writes};
+ghost use Rattle.gdb_server.specs.Commands.{history_text, mark_lines, placed_by, placed_text, settings_with};
+ghost use Rattle.gdb_server.specs.Conduct.{past_after, past_by};
+ghost use Rattle.gdb_server.specs.Writes.{Writes, after_place};
 ghost use Rattle.gdb_past.specs.Places.{AreOfOneMachine};
 ghost use Rattle.output.specs.Output.{Put};
 ghost use Rattle.platform.specs.Priorities.{is_below_zero};
@@ -20,10 +23,12 @@ use gdb_past::Past;
 use gdb_texts::{
     ErrorCode, Monitor, Settings, explanation, monitor_help, read_monitor, settings_after, why_text,
 };
-use machine::{Decider, Decision, DueTicks, IoError, KeptCode, Levels, Machine, Out, PlaceError};
+use machine::{
+    Decider, Decision, Exceptions, IoError, KeptCode, Machine, Out, Place, PlaceError, SysTickState,
+};
 use trace::page::Page;
 
-/// Returns whether a command is known. Those of going back in time and of steps over handlers aren't.
+/// Returns whether a command is known. That of steps over handlers isn't.
 fn is_known(command: Monitor) -> bool
     ensures { result ≡ is_known command }
 {
@@ -39,8 +44,9 @@ fn is_known(command: Monitor) -> bool
         | Monitor::Budget(_)
         | Monitor::Place(_)
         | Monitor::Restart
+        | Monitor::History
         | Monitor::Why => true,
-        Monitor::History | Monitor::Step(_) => false,
+        Monitor::Step(_) => false,
     }
 }
 
@@ -78,22 +84,45 @@ pub fn settings_with(settings: Settings, asked: Result<Monitor, LineError>) -> S
     }
 }
 
+/// Puts a value into its place, and marks the machine's state after it. Returns why it was refused, if it was.
+fn put_and_mark<D: Decider, C: KeptCode, L: Exceptions, U: SysTickState>(
+    machine: &mut Machine<D, C, L, U>,
+    past: &mut Past<L, U>,
+    place: Option<Place>,
+) -> Option<PlaceError>
+    requires { AreOfOneMachine machine.old.state past.old.start }
+    ensures writes { Writes (after_place machine.old.state (altered_if machine.old.state place)) machine.old
+        machine.new result }
+    ensures past { past.new ≡ past_after past.old true
+        (after_place machine.old.state (altered_if machine.old.state place)).state
+        (after_place machine.old.state (altered_if machine.old.state place)).refused }
+{
+    match put(machine, place) {
+        Some(error) => Some(error),
+        None => {
+            past.mark(machine);
+            None
+        }
+    }
+}
+
 /// Puts the value of a command into its place, where the command has one, or takes the machine back to its first state.
 /// Returns why the value was refused, if it was.
-pub fn place_by<D: Decider, C: KeptCode, L: Levels, U: DueTicks>(
+pub fn place_by<D: Decider, C: KeptCode, L: Exceptions, U: SysTickState>(
     machine: &mut Machine<D, C, L, U>,
-    past: &Past<L, U>,
+    past: &mut Past<L, U>,
     asked: Result<Monitor, LineError>,
 ) -> Option<PlaceError>
-    requires { AreOfOneMachine machine.old.state past.now.start }
-    ensures { Writes (placed_by past.now.start machine.old.state asked) machine.old machine.new result }
+    requires { AreOfOneMachine machine.old.state past.old.start }
+    ensures writes { Writes (placed_by past.old.start machine.old.state asked) machine.old machine.new result }
+    ensures past { past.new ≡ past_by past.old (placed_by past.old.start machine.old.state asked) asked }
 {
     match asked {
         Ok(Monitor::Restart) => {
             past.restart(machine);
             None
         }
-        Ok(Monitor::Place(place)) => put(machine, place),
+        Ok(Monitor::Place(place)) => put_and_mark(machine, past, place),
         Ok(
             Monitor::Help
             | Monitor::Explain(_, _, _)
@@ -141,8 +170,45 @@ fn placed_text(refused: Option<PlaceError>) -> Reply
     }
 }
 
+/// Puts the line of a tick.
+fn put_tick(page: &mut Page<256>, tick: u64)
+    requires { length page.old ≤ 235 }
+    ensures text { page.new ≡ page.old ++ (decimal tick ++ line_feed) }
+    ensures short { length page.new ≤ length page.old + 21 }
+{
+    page.put_decimal(tick);
+    page.put(b"\n");
+}
+
+/// Returns the ticks of the marks, a line each.
+fn mark_lines<L: Exceptions, U: SysTickState>(past: &Past<L, U>) -> Page<256>
+    ensures text { result ≡ mark_lines past.now.marks }
+    ensures short { length result ≤ 168 }
+{
+    let mut page: Page<256> = Page::new();
+    let mut left = past.count();
+    'marks: while left > 0 {
+        left -= 1;
+        put_tick(&mut page, past.tick(left));
+    }
+    page
+}
+
+/// Returns the ticks of the marks, a line each, and the tick now.
+fn history_text<D: Decider, C: KeptCode, L: Exceptions, U: SysTickState>(
+    past: &Past<L, U>,
+    machine: &Machine<D, C, L, U>,
+) -> Page<256>
+    ensures { result ≡ history_text past.now machine.now.state }
+{
+    let mut page = mark_lines(past);
+    page.put(b"now ");
+    put_tick(&mut page, machine.ticks());
+    page
+}
+
 /// Writes text for GDB's console, in packets.
-fn tell<W: Out>(text: &[u8], out: &mut W) -> Result<(), IoError>
+fn report<W: Out>(text: &[u8], out: &mut W) -> Result<(), IoError>
     ensures { Put (W.writing out.old) (W.writing out.new) (console_text text.now) result }
 {
     let mut console = Console::new(None);
@@ -155,34 +221,34 @@ fn tell<W: Out>(text: &[u8], out: &mut W) -> Result<(), IoError>
 
 /// Writes the text of a command, in packets. `why` is the last refusal of a packet, and `refused` that of the
 /// command's value.
-pub fn tell_command<D: Decider, C: KeptCode, L: Levels, U: DueTicks, W: Out>(
+pub fn report_command<D: Decider, C: KeptCode, L: Exceptions, U: SysTickState, W: Out>(
     machine: &Machine<D, C, L, U>,
+    past: &Past<L, U>,
     why: Option<ErrorCode>,
     refused: Option<PlaceError>,
     asked: Result<Monitor, LineError>,
     out: &mut W,
 ) -> Result<(), IoError>
     ensures { Put (W.writing out.old) (W.writing out.new)
-        (console_text (command_text machine.now.state why refused asked)) result }
+        (console_text (command_text past.now machine.now.state why refused asked)) result }
 {
     match asked {
-        Ok(Monitor::Help) => tell(monitor_help(), out),
-        Ok(Monitor::Explain(address, privileged, kind)) => tell(
+        Ok(Monitor::Help) => report(monitor_help(), out),
+        Ok(Monitor::Explain(address, privileged, kind)) => report(
             decided_text(&machine.explain(address, privileged, kind)).as_slice(),
             out,
         ),
-        Ok(Monitor::Regions) => tell(regions_text(machine).as_slice(), out),
-        Ok(Monitor::State) => tell(state_page(machine).as_slice(), out),
-        Ok(Monitor::Next) => tell(next_text(machine).as_slice(), out),
-        Ok(Monitor::Place(_)) => tell(placed_text(refused).as_slice(), out),
-        Ok(Monitor::Why) => tell(why_text(why), out),
+        Ok(Monitor::Regions) => report(regions_text(machine).as_slice(), out),
+        Ok(Monitor::State) => report(state_page(machine).as_slice(), out),
+        Ok(Monitor::Next) => report(next_text(machine).as_slice(), out),
+        Ok(Monitor::Place(_)) => report(placed_text(refused).as_slice(), out),
+        Ok(Monitor::Why) => report(why_text(why), out),
         Ok(Monitor::Trace(_) | Monitor::Lines(_) | Monitor::Stop(_, _) | Monitor::Budget(_)) => {
-            tell(ok_text().as_slice(), out)
+            report(ok_text().as_slice(), out)
         }
-        Ok(Monitor::Restart) => tell(flush_advice().as_slice(), out),
-        Ok(Monitor::History | Monitor::Step(_)) => {
-            tell(error_text(LineError::Command).as_slice(), out)
-        }
-        Err(error) => tell(error_text(error).as_slice(), out),
+        Ok(Monitor::Restart) => report(flush_advice().as_slice(), out),
+        Ok(Monitor::History) => report(history_text(past, machine).as_slice(), out),
+        Ok(Monitor::Step(_)) => report(error_text(LineError::Command).as_slice(), out),
+        Err(error) => report(error_text(error).as_slice(), out),
     }
 }

@@ -20,20 +20,21 @@ use gdb_texts::{
     Activity, Signal, put_first_bytes, put_piece, put_region_info, put_registers, put_signal_reply,
     put_text, put_thread, put_word,
 };
-use machine::{Decider, DueTicks, KeptCode, Layout, Levels, Machine};
+use machine::{Decider, Exceptions, KeptCode, Layout, Machine, SysTickState};
 use std::marker::Model;
 
 /// The most bytes of a reply's data.
-pub const MOST_DATA: usize = 4096;
+pub const MAX_DATA: usize = 4096;
 
 /// The features of the server.
 const FEATURES: &str = "\
-PacketSize=1000;QStartNoAckMode+;qXfer:features:read+;qXfer:memory-map:read+;vContSupported+;swbreak+;hwbreak+";
+PacketSize=1000;QStartNoAckMode+;qXfer:features:read+;qXfer:memory-map:read+;vContSupported+;\
+ReverseStep+;ReverseContinue+;swbreak+;hwbreak+";
 
 /// The data of a reply.
 #[derive(Drop)]
 pub struct Data {
-    bytes: ArrayVec<u8, MOST_DATA>,
+    bytes: ArrayVec<u8, MAX_DATA>,
 }
 
 impl Model for Data {
@@ -45,7 +46,6 @@ impl Model for Data {
 }
 
 impl Data {
-    /// Returns no data.
     fn new() -> Self
         ensures { result ≡ [] }
     {
@@ -80,7 +80,7 @@ impl Data {
     }
 
     /// Returns the last signal, with all registers.
-    pub fn of_signal<D: Decider, C: KeptCode, L: Levels, U: DueTicks>(
+    pub fn of_signal<D: Decider, C: KeptCode, L: Exceptions, U: SysTickState>(
         signal: Signal,
         machine: &Machine<D, C, L, U>,
     ) -> Self
@@ -92,7 +92,7 @@ impl Data {
     }
 
     /// Returns the digits of all registers.
-    pub fn of_registers<D: Decider, C: KeptCode, L: Levels, U: DueTicks>(
+    pub fn of_registers<D: Decider, C: KeptCode, L: Exceptions, U: SysTickState>(
         machine: &Machine<D, C, L, U>,
     ) -> Self
         ensures { result ≡ registers_text (target_values machine.now.state) }
@@ -112,7 +112,7 @@ impl Data {
     }
 
     /// Returns the digits of the bytes of memory from an address on.
-    pub fn of_memory<D: Decider, C: KeptCode, L: Levels, U: DueTicks>(
+    pub fn of_memory<D: Decider, C: KeptCode, L: Exceptions, U: SysTickState>(
         machine: &Machine<D, C, L, U>,
         address: u32,
         count: u32,
@@ -157,7 +157,7 @@ impl Data {
         ensures { result ≡ bytes_in digits.now }
     {
         let mut data = Data::new();
-        let count = (digits.len() / 2).min(MOST_DATA);
+        let count = (digits.len() / 2).min(MAX_DATA);
         put_first_bytes(&mut data.bytes, digits, count as u32);
         data
     }

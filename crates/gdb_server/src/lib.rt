@@ -7,6 +7,7 @@ mod purposes;
 mod reading;
 mod server;
 mod session;
+mod waiting;
 mod writes;
 
 pub use server::Server;

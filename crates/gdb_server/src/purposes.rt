@@ -3,6 +3,7 @@
 ghost use Rattle.std.specs.Prelude.{◌≡◌};
 ghost use Rattle.gdb_server.specs.Purposes.{insertion_of, purpose_of, removal_of, resumption, watchpoint};
 
+use gdb::Way;
 use gdb_packets::{PointKind, Request};
 use gdb_texts::{
     Breakpoint, BreakpointKind, ErrorCode, Resume, WatchKind, Watchpoint, read_actions,
@@ -101,6 +102,8 @@ pub enum Purpose {
     Kill,
     /// A run.
     Resume(Resume),
+    /// A run backwards.
+    Back(Way),
     /// The first state again, with the reply to `?`.
     Run,
     /// The first state again, without a reply.
@@ -109,14 +112,12 @@ pub enum Purpose {
     Command,
 }
 
-/// Returns a breakpoint.
 fn breakpoint(kind: BreakpointKind, address: u32) -> Breakpoint
     ensures { result ≡ record { kind = kind; address = address } }
 {
     Breakpoint { kind, address }
 }
 
-/// Returns a watchpoint.
 fn watchpoint(kind: WatchKind, address: u32, length: u32) -> Watchpoint
     ensures { result ≡ watchpoint kind address length }
 {
@@ -183,16 +184,15 @@ fn resumption(how: Option<Resume>) -> Purpose
     }
 }
 
-/// Returns what a packet asks for, by its name and fields and what follows them. Packets of going back in time
-/// aren't known.
+/// Returns what a packet asks for, by its name and fields and what follows them.
 #[tactic(auto, unfolding(crate::specs::Purposes::purpose_of))]
 pub fn purpose_of(request: Request, tail: &[u8]) -> Purpose
     ensures { result ≡ purpose_of request tail.now }
 {
     match request {
-        Request::Unknown | Request::ReverseStep | Request::ReverseContinue => Purpose::Say(
-            Constant::Empty,
-        ),
+        Request::Unknown => Purpose::Say(Constant::Empty),
+        Request::ReverseStep => Purpose::Back(Way::Step),
+        Request::ReverseContinue => Purpose::Back(Way::Continue),
         Request::SelectThread | Request::ThreadAlive => Purpose::Say(Constant::Done),
         Request::ResumeActions => Purpose::Say(Constant::ResumeActions),
         Request::Attached => Purpose::Say(Constant::Attached),

@@ -12,7 +12,7 @@ use arrayvec::ArrayVec;
 use devices::Device;
 use gdb::register_values;
 use gdb_texts::{Activity, ErrorCode, REGISTERS, Signal, description, put_memory_map};
-use machine::{Decider, DueTicks, KeptCode, Layout, Levels, Machine, StepKind};
+use machine::{Decider, Exceptions, KeptCode, Layout, Machine, StepKind, SysTickState};
 
 /// Returns whether the next step takes a vector: an exception is being entered.
 fn is_entering(kind: Option<StepKind>) -> bool
@@ -25,7 +25,7 @@ fn is_entering(kind: Option<StepKind>) -> bool
 }
 
 /// Returns what the machine is at.
-pub fn activity_of<D: Decider, C: KeptCode, L: Levels, U: DueTicks>(
+pub fn activity_of<D: Decider, C: KeptCode, L: Exceptions, U: SysTickState>(
     machine: &Machine<D, C, L, U>,
 ) -> Activity
     ensures { result ≡ activity_of machine.now.state }
@@ -46,7 +46,7 @@ pub fn activity_of<D: Decider, C: KeptCode, L: Levels, U: DueTicks>(
 }
 
 /// Returns the digits of the register of a number.
-fn register_data<D: Decider, C: KeptCode, L: Levels, U: DueTicks>(
+fn register_data<D: Decider, C: KeptCode, L: Exceptions, U: SysTickState>(
     machine: &Machine<D, C, L, U>,
     number: u32,
 ) -> Result<Data, ErrorCode>
@@ -60,7 +60,7 @@ fn register_data<D: Decider, C: KeptCode, L: Levels, U: DueTicks>(
 }
 
 /// Returns the digits of the bytes from an address on, as many as can be read.
-fn memory_data<D: Decider, C: KeptCode, L: Levels, U: DueTicks>(
+fn memory_data<D: Decider, C: KeptCode, L: Exceptions, U: SysTickState>(
     machine: &Machine<D, C, L, U>,
     address: u32,
     count: u32,
@@ -87,20 +87,20 @@ fn piece_data(text: &[u8], offset: u32, count: u32) -> Result<Data, ErrorCode>
 }
 
 /// The most bytes of the map of the memory.
-const MOST_MAP: usize = 17_408;
+const MAX_MAP: usize = 17_408;
 
 /// Returns a piece of the map of the memory.
 fn map_piece(board: &Layout, devices: &[Device], offset: u32, count: u32) -> Result<Data, ErrorCode>
     requires { length devices.now ≤ 256 }
     ensures { result ≡ piece_data (memory_map (numbers_of board.now) devices.now) offset count }
 {
-    let mut map: ArrayVec<u8, MOST_MAP> = ArrayVec::new();
+    let mut map: ArrayVec<u8, MAX_MAP> = ArrayVec::new();
     put_memory_map(&mut map, board, devices);
     piece_data(map.as_slice(), offset, count)
 }
 
 /// Returns what a packet reads, after the last signal of a session on a board with these devices.
-pub fn read<D: Decider, C: KeptCode, L: Levels, U: DueTicks>(
+pub fn read<D: Decider, C: KeptCode, L: Exceptions, U: SysTickState>(
     signal: Signal,
     board: &Layout,
     devices: &[Device],

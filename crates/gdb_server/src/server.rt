@@ -3,24 +3,24 @@
 ghost use Rattle.std.specs.Prelude.{◌≡◌, IfOk, OnOk};
 ghost use Rattle.gdb_server.specs.Conduct.{conduct, first};
 ghost use Rattle.platform.specs.Boards.{numbers_of};
-ghost use Rattle.serving.specs.Pieces.{Tells};
+ghost use Rattle.serving.specs.Pieces.{Delivers};
 
 use crate::session::Session;
 use devices::Device;
 use gdb_packets::Framer;
-use machine::{Decider, DueTicks, IoError, KeptCode, Layout, Levels, Machine, Out};
+use machine::{Decider, Exceptions, IoError, KeptCode, Layout, Machine, Out, SysTickState};
 use serving::Protocol;
 use std::alloc::{AllocError, Global};
 use std::marker::Model;
 
 /// A server between two bytes of its input.
 #[derive(Drop)]
-pub struct Server<L: Levels, U: DueTicks> {
+pub struct Server<L: Exceptions, U: SysTickState> {
     framer: Framer,
     session: Session<L, U>,
 }
 
-impl<L: Levels, U: DueTicks> Model for Server<L, U> {
+impl<L: Exceptions, U: SysTickState> Model for Server<L, U> {
     ghost use Rattle.gdb_server.specs.Conduct.{Server as ServerView};
 
     ghost Value = { ServerView };
@@ -28,7 +28,7 @@ impl<L: Levels, U: DueTicks> Model for Server<L, U> {
     ghost view = { λ s. record { framing = s.framer; session = s.session } };
 }
 
-impl<L: Levels, U: DueTicks> Server<L, U> {
+impl<L: Exceptions, U: SysTickState> Server<L, U> {
     /// Returns a server of a machine of a board with these devices before its first byte. Runs go to the tick `limit`
     /// at most. Fails where memory can't be allocated, and where there are more than 256 devices.
     pub fn new<D: Decider, C: KeptCode>(
@@ -48,7 +48,7 @@ impl<L: Levels, U: DueTicks> Server<L, U> {
     }
 }
 
-impl<L: Levels, U: DueTicks> Protocol<L, U> for Server<L, U> {
+impl<L: Exceptions, U: SysTickState> Protocol<L, U> for Server<L, U> {
     ghost use Rattle.gdb_past.specs.Places.{AreOfOneMachine};
     ghost use Rattle.gdb_server.specs.Conduct.{conduct};
 
@@ -60,7 +60,7 @@ impl<L: Levels, U: DueTicks> Protocol<L, U> for Server<L, U> {
         self.session.is_open()
     }
 
-    fn hear<D: Decider, C: KeptCode, W: Out>(
+    fn answer_byte<D: Decider, C: KeptCode, W: Out>(
         &mut self,
         machine: &mut Machine<D, C, L, U>,
         byte: u8,

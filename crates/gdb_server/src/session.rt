@@ -1,44 +1,49 @@
 //! What a session keeps between two packets, and what a packet makes.
 
-ghost use Rattle.std.specs.Prelude.{◌≡◌, ◌≤◌, IfOk, OnOk, Some, bytes_eq, false, length};
+ghost use Rattle.std.specs.Prelude.{◌≡◌, ◌≤◌, IfOk, OnOk, Some, false, length};
 ghost use Rattle.gdb_packets.specs.Replies.{packet_of};
 ghost use Rattle.gdb_past.specs.Places.{AreOfOneMachine};
 ghost use Rattle.gdb_packets.specs.Seen.{seen_packet};
-ghost use Rattle.gdb_server.specs.Commands.{command_of, settings_with};
-ghost use Rattle.gdb_server.specs.Conduct.{acknowledgement, answered, begun, commanded, first_turn, heard, interrupted};
-ghost use Rattle.gdb_server.specs.Conduct.{interrupted_by, is_interrupt, long_heard, packet_heard, replied};
-ghost use Rattle.gdb_server.specs.Conduct.{reply_heard, resumed, sent_again, told, too_long, whole_heard, with_turn};
-ghost use Rattle.gdb_server.specs.Conduct.{wrote};
-ghost use Rattle.gdb_server.specs.Purposes.{is_file_reply};
+ghost use Rattle.gdb_server.specs.Commands.{command_of, placed_by, settings_with};
+ghost use Rattle.gdb_server.specs.Conduct.{acknowledgement, answered, begun, commanded, gone_on, event_answered};
+ghost use Rattle.gdb_server.specs.Conduct.{interrupted, long_answered, packet_answered, past_after, past_by};
+ghost use Rattle.gdb_server.specs.Conduct.{replied, reply_answered, restarted, resumed, searched, sent_again, reported};
+ghost use Rattle.gdb_server.specs.Conduct.{too_long, whole_answered, with_return, with_turn, wrote};
 ghost use Rattle.gdb_server.specs.Replies.{data_read};
 ghost use Rattle.gdb_server.specs.Sessions.{data_of_reply, data_of_write, left, opened, reply_packet, session_after};
 ghost use Rattle.gdb_server.specs.Sessions.{set_data, with_reply};
-ghost use Rattle.gdb_server.specs.Writes.{written};
+ghost use Rattle.gdb_server.specs.Writes.{Writes, writes, written};
 ghost use Rattle.output.specs.Output.{Put};
 ghost use Rattle.platform.specs.Boards.{numbers_of};
-ghost use Rattle.serving.specs.Pieces.{Tells};
+ghost use Rattle.serving.specs.Pieces.{Delivers};
 
-use crate::commands::{place_by, read_command, settings_with, tell_command};
+use crate::commands::{place_by, read_command, report_command, settings_with};
 use crate::content::{Data, constant_text, features};
 use crate::purposes::{MachineChange, Purpose, Reading, SessionChange, purpose_of};
 use crate::reading::read;
-use crate::writes::write;
+use crate::waiting::{Waiting, first_turn, interrupted_if, is_file_reply, is_interrupt};
+use crate::writes::{write, writes};
 use debugger_commands::LineError;
-use devices::{Device, MOST_DEVICES};
-use gdb::{Points, Run, SentPacket, Terms, Turn, go_on, send_packet};
-use gdb_packets::{Event, Packet, Request, read_packet};
+use devices::{Device, MAX_DEVICES};
+use gdb::{
+    Points, Return, Run, Search, SentPacket, Terms, Turn, first_search, go_back, run_turn,
+    send_packet,
+};
+use gdb_packets::{Event, Packet, read_packet};
 use gdb_past::{Past, Position};
 use gdb_texts::{
-    Breakpoints, ErrorCode, Features, Monitor, Reply, Resume, Settings, Signal, Watchpoints,
+    Breakpoints, ErrorCode, Features, Monitor, Reply, Settings, Signal, Watchpoints,
     first_settings, read_features, refusal, reply_text,
 };
-use machine::{Decider, DueTicks, IoError, KeptCode, Layout, Levels, Machine, Out, PlaceError};
+use machine::{
+    Decider, Exceptions, IoError, KeptCode, Layout, Machine, Out, PlaceError, SysTickState,
+};
 use std::alloc::{AllocError, Global};
 use std::marker::Model;
 
 /// What a session keeps between two packets, beside the machine.
 #[derive(Drop)]
-pub struct Session<L: Levels, U: DueTicks> {
+pub struct Session<L: Exceptions, U: SysTickState> {
     points: Points,
     settings: Settings,
     /// The signal of the last run's end.
@@ -48,8 +53,8 @@ pub struct Session<L: Levels, U: DueTicks> {
     acknowledges: bool,
     /// The last packet that was sent.
     sent: SentPacket,
-    /// The run that GDB has been asked about.
-    running: Option<Run>,
+    /// What GDB has been asked about.
+    running: Option<Waiting>,
     /// Why the last packet was refused that was.
     refused: Option<ErrorCode>,
     is_open: bool,
@@ -65,7 +70,7 @@ pub struct Session<L: Levels, U: DueTicks> {
     position: Position<L, U>,
 }
 
-impl<L: Levels, U: DueTicks> Model for Session<L, U> {
+impl<L: Exceptions, U: SysTickState> Model for Session<L, U> {
     ghost use Rattle.std.specs.Prelude.{◌≤◌, length};
     ghost use Rattle.gdb_past.specs.Places.{AreOfOneMachine};
     ghost use Rattle.gdb_server.specs.Sessions.{Session as SessionView};
@@ -113,49 +118,7 @@ fn data_of_write(refused: Option<PlaceError>) -> Result<Data, ErrorCode>
     }
 }
 
-/// Returns whether two texts are equal.
-fn is_same(text: &[u8], other: &[u8]) -> bool
-    ensures { result ≡ bytes_eq text.now other.now }
-{
-    text == other
-}
-
-/// Returns whether the reply to a question says that the user has interrupted the run.
-fn is_interrupt(tail: &[u8]) -> bool
-    ensures { result ≡ is_interrupt tail.now }
-{
-    tail.len() >= 2 && is_same(&tail[tail.len() - 2..], b",C")
-}
-
-/// Returns a run, interrupted if the reply to its question says so.
-fn interrupted_by(tail: &[u8], run: Run) -> Run
-    ensures { result ≡ interrupted_by tail.now run }
-{
-    let mut replied = run;
-    replied.is_interrupted = run.is_interrupted || is_interrupt(tail);
-    replied
-}
-
-/// Returns a run before its first step.
-fn first_turn(how: Resume) -> Run
-    ensures { result ≡ first_turn how }
-{
-    Run {
-        how,
-        made: 0,
-        last: None,
-        is_interrupted: false,
-    }
-}
-
-/// Returns whether a packet is the reply to a question.
-fn is_file_reply(request: Request) -> bool
-    ensures { result ≡ is_file_reply request }
-{
-    matches!(request, Request::FileReply)
-}
-
-impl<L: Levels, U: DueTicks> Session<L, U> {
+impl<L: Exceptions, U: SysTickState> Session<L, U> {
     /// Returns a session of a machine before its first packet, whose runs go to the tick `limit` at most. Fails where
     /// memory can't be allocated, and where there are more than 256 devices.
     pub fn new<D: Decider, C: KeptCode>(
@@ -168,7 +131,7 @@ impl<L: Levels, U: DueTicks> Session<L, U> {
         ensures { IfOk result (λ session.
             session ≡ opened limit (numbers_of board) devices.items machine.now.state) }
     {
-        if devices.len() > MOST_DEVICES {
+        if devices.len() > MAX_DEVICES {
             return Err(AllocError);
         }
         Ok(Session {
@@ -211,14 +174,13 @@ impl<L: Levels, U: DueTicks> Session<L, U> {
         self.refused
     }
 
-    /// Returns the run that waits for the reply to its question, if one does.
-    fn waiting(&self) -> Option<Run>
+    /// Returns what waits for the reply to its question, if something does.
+    fn waiting(&self) -> Option<Waiting>
         ensures { result ≡ self.now.running }
     {
         self.running
     }
 
-    /// Returns whether packets are acknowledged.
     fn acknowledges(&self) -> bool
         ensures { result ≡ self.now.acknowledges }
     {
@@ -232,7 +194,6 @@ impl<L: Levels, U: DueTicks> Session<L, U> {
         self.sent.as_slice()
     }
 
-    /// Returns what a packet reads.
     fn read<D: Decider, C: KeptCode>(
         &self,
         machine: &Machine<D, C, L, U>,
@@ -257,9 +218,10 @@ impl<L: Levels, U: DueTicks> Session<L, U> {
     }
 
     /// Takes the machine back to its first state.
-    fn restart<D: Decider, C: KeptCode>(&self, machine: &mut Machine<D, C, L, U>)
-        requires { AreOfOneMachine self.now.past.start machine.old.state }
-        ensures { machine.new ≡ record machine.old { state = self.now.past.start } }
+    fn restart<D: Decider, C: KeptCode>(&mut self, machine: &mut Machine<D, C, L, U>)
+        requires { AreOfOneMachine self.old.past.start machine.old.state }
+        ensures machine { machine.new ≡ record machine.old { state = self.old.past.start } }
+        ensures kept { self.new ≡ restarted self.old }
     {
         self.past.restart(machine);
     }
@@ -312,7 +274,7 @@ impl<L: Levels, U: DueTicks> Session<L, U> {
         answer: Result<Data, ErrorCode>,
         out: &mut W,
     ) -> Result<(), IoError>
-        ensures tells { Tells (replied self.old machine.now.state answer).pieces machine.now machine.now
+        ensures delivers { Delivers (replied self.old machine.now.state answer).pieces machine.now machine.now
             (W.writing out.old) (W.writing out.new) result }
         ensures kept { self.new ≡ (replied self.old machine.now.state answer).session }
     {
@@ -359,6 +321,28 @@ impl<L: Levels, U: DueTicks> Session<L, U> {
         }
     }
 
+    /// Marks the machine's state after a write, unless it was refused or wrote nothing.
+    fn mark_after<D: Decider, C: KeptCode>(
+        &mut self,
+        something: bool,
+        machine: &Machine<D, C, L, U>,
+        refused: Option<PlaceError>,
+    )
+        requires { AreOfOneMachine self.old.past.start machine.now.state }
+        ensures { self.new ≡ record self.old {
+          past = past_after self.old.past something machine.now.state refused;
+        } }
+    {
+        match refused {
+            Some(_) => {}
+            None => {
+                if something {
+                    self.past.mark(machine);
+                }
+            }
+        }
+    }
+
     /// Writes to the machine, and answers.
     fn write<D: Decider, C: KeptCode, W: Out>(
         &mut self,
@@ -368,32 +352,58 @@ impl<L: Levels, U: DueTicks> Session<L, U> {
         out: &mut W,
     ) -> Result<(), IoError>
         requires { AreOfOneMachine self.old.past.start machine.old.state }
-        ensures tells { Tells (wrote self.old (written machine.old.state change tail.now)).pieces machine.old
-            machine.new (W.writing out.old) (W.writing out.new) result }
-        ensures kept { self.new ≡ (wrote self.old (written machine.old.state change tail.now)).session }
+        ensures delivers { Delivers
+            (wrote self.old (writes change tail.now) (written machine.old.state change tail.now)).pieces
+            machine.old machine.new (W.writing out.old) (W.writing out.new) result }
+        ensures kept { self.new
+            ≡ (wrote self.old (writes change tail.now) (written machine.old.state change tail.now)).session }
         ensures same { AreOfOneMachine machine.old.state machine.new.state }
     {
         let refused = write(machine, change, tail);
+        self.mark_after(writes(change, tail), machine, refused);
         self.put_reply(data_of_write(refused), out)
     }
 
     /// Writes the text of a command that was carried out, and then the reply.
-    fn tell<D: Decider, C: KeptCode, W: Out>(
+    fn report<D: Decider, C: KeptCode, W: Out>(
         &mut self,
         machine: &Machine<D, C, L, U>,
         refused: Option<PlaceError>,
         asked: Result<Monitor, LineError>,
         out: &mut W,
     ) -> Result<(), IoError>
-        ensures tells { Tells (told self.old machine.now.state refused asked).pieces machine.now machine.now
+        ensures delivers { Delivers (reported self.old machine.now.state refused asked).pieces machine.now machine.now
             (W.writing out.old) (W.writing out.new) result }
-        ensures kept { OnOk result (self.new ≡ (told self.old machine.now.state refused asked).session) }
+        ensures kept { OnOk result (self.new ≡ (reported self.old machine.now.state refused asked).session) }
     {
-        match tell_command(machine, self.last_refusal(), refused, asked, out) {
+        match report_command(
+            machine,
+            &self.past,
+            self.last_refusal(),
+            refused,
+            asked,
+            out,
+        ) {
             Ok(()) => {}
             Err(error) => return Err(error),
         }
         self.put_reply(data_of_reply(Reply::Done), out)
+    }
+
+    /// Puts the value of a command into its place, where the command has one, or begins anew. Returns why the value was
+    /// refused, if it was.
+    fn place_by<D: Decider, C: KeptCode>(
+        &mut self,
+        machine: &mut Machine<D, C, L, U>,
+        asked: Result<Monitor, LineError>,
+    ) -> Option<PlaceError>
+        requires { AreOfOneMachine self.old.past.start machine.old.state }
+        ensures writes { Writes (placed_by self.old.past.start machine.old.state asked) machine.old machine.new result }
+        ensures kept { self.new ≡ record self.old {
+          past = past_by self.old.past (placed_by self.old.past.start machine.old.state asked) asked;
+        } }
+    {
+        place_by(machine, &mut self.past, asked)
     }
 
     /// Carries out a command of `monitor`, and answers.
@@ -404,16 +414,16 @@ impl<L: Levels, U: DueTicks> Session<L, U> {
         out: &mut W,
     ) -> Result<(), IoError>
         requires { AreOfOneMachine self.old.past.start machine.old.state }
-        ensures tells { Tells (commanded self.old machine.old.state (command_of digits.now)).pieces machine.old
+        ensures delivers { Delivers (commanded self.old machine.old.state (command_of digits.now)).pieces machine.old
             machine.new (W.writing out.old) (W.writing out.new) result }
         ensures kept { OnOk result
             (self.new ≡ (commanded self.old machine.old.state (command_of digits.now)).session) }
         ensures same { AreOfOneMachine machine.old.state machine.new.state }
     {
         let asked = read_command(digits);
-        let refused = place_by(machine, &self.past, asked);
+        let refused = self.place_by(machine, asked);
         self.change_settings(asked);
-        self.tell(machine, refused, asked, out)
+        self.report(machine, refused, asked, out)
     }
 
     /// Keeps how a turn of a run ended.
@@ -421,7 +431,7 @@ impl<L: Levels, U: DueTicks> Session<L, U> {
         ensures { self.new ≡ with_turn self.old turn }
     {
         match turn {
-            Turn::Asks(run) => self.running = Some(run),
+            Turn::Asks(run) => self.running = Some(Waiting::Running(run)),
             Turn::Ends(signal) => {
                 self.running = None;
                 self.signal = signal;
@@ -437,7 +447,7 @@ impl<L: Levels, U: DueTicks> Session<L, U> {
         out: &mut W,
     ) -> Result<(), IoError>
         requires { AreOfOneMachine self.old.past.start machine.old.state }
-        ensures tells { Tells (resumed self.old machine.old.state run).pieces machine.old machine.new
+        ensures delivers { Delivers (resumed self.old machine.old.state run).pieces machine.old machine.new
             (W.writing out.old) (W.writing out.new) result }
         ensures kept { OnOk result (self.new ≡ (resumed self.old machine.old.state run).session) }
         ensures same { AreOfOneMachine machine.old.state machine.new.state }
@@ -448,7 +458,7 @@ impl<L: Levels, U: DueTicks> Session<L, U> {
             features: self.features,
             limit: self.limit,
         };
-        match go_on(
+        match run_turn(
             run,
             &terms,
             &mut self.position,
@@ -464,6 +474,74 @@ impl<L: Levels, U: DueTicks> Session<L, U> {
         }
     }
 
+    /// Keeps how a turn of a search ended.
+    fn keep_return(&mut self, end: Return)
+        ensures { self.new ≡ with_return self.old end }
+    {
+        match end {
+            Return::Asks(search) => self.running = Some(Waiting::Searching(search)),
+            Return::Ends(signal) => {
+                self.running = None;
+                self.signal = signal;
+            }
+        }
+    }
+
+    /// Makes the next turn of a search.
+    fn search<D: Decider, C: KeptCode, W: Out>(
+        &mut self,
+        machine: &mut Machine<D, C, L, U>,
+        search: Search,
+        out: &mut W,
+    ) -> Result<(), IoError>
+        requires { AreOfOneMachine self.old.past.start machine.old.state }
+        ensures delivers { Delivers (searched self.old machine.old.state search).pieces machine.old machine.new
+            (W.writing out.old) (W.writing out.new) result }
+        ensures kept { OnOk result (self.new ≡ (searched self.old machine.old.state search).session) }
+        ensures same { AreOfOneMachine machine.old.state machine.new.state }
+    {
+        let terms = Terms {
+            points: &self.points,
+            settings: self.settings,
+            features: self.features,
+            limit: self.limit,
+        };
+        match go_back(
+            search,
+            &terms,
+            &mut self.past,
+            &mut self.position,
+            &mut self.sent,
+            machine,
+            out,
+        ) {
+            Ok(end) => {
+                self.keep_return(end);
+                Ok(())
+            }
+            Err(error) => Err(error),
+        }
+    }
+
+    /// Makes the next turn of what waited.
+    fn run_turn<D: Decider, C: KeptCode, W: Out>(
+        &mut self,
+        machine: &mut Machine<D, C, L, U>,
+        waiting: Waiting,
+        out: &mut W,
+    ) -> Result<(), IoError>
+        requires { AreOfOneMachine self.old.past.start machine.old.state }
+        ensures delivers { Delivers (gone_on self.old machine.old.state waiting).pieces machine.old machine.new
+            (W.writing out.old) (W.writing out.new) result }
+        ensures kept { OnOk result (self.new ≡ (gone_on self.old machine.old.state waiting).session) }
+        ensures same { AreOfOneMachine machine.old.state machine.new.state }
+    {
+        match waiting {
+            Waiting::Running(run) => self.resume(machine, run, out),
+            Waiting::Searching(search) => self.search(machine, search, out),
+        }
+    }
+
     /// Takes the machine back to its first state, and answers as to `?`.
     fn begin<D: Decider, C: KeptCode, W: Out>(
         &mut self,
@@ -471,7 +549,8 @@ impl<L: Levels, U: DueTicks> Session<L, U> {
         out: &mut W,
     ) -> Result<(), IoError>
         requires { AreOfOneMachine self.old.past.start machine.old.state }
-        ensures tells { Tells (begun self.old).pieces machine.old machine.new (W.writing out.old) (W.writing out.new)
+        ensures delivers { Delivers (begun self.old).pieces machine.old machine.new (W.writing out.old)
+            (W.writing out.new)
             result }
         ensures kept { self.new ≡ (begun self.old).session }
         ensures same { AreOfOneMachine machine.old.state machine.new.state }
@@ -490,7 +569,8 @@ impl<L: Levels, U: DueTicks> Session<L, U> {
         out: &mut W,
     ) -> Result<(), IoError>
         requires { AreOfOneMachine self.old.past.start machine.old.state }
-        ensures tells { Tells (answered self.old machine.old.state purpose tail.now).pieces machine.old machine.new
+        ensures delivers { Delivers (answered self.old machine.old.state purpose tail.now).pieces machine.old
+            machine.new
             (W.writing out.old) (W.writing out.new) result }
         ensures kept { OnOk result (self.new ≡ (answered self.old machine.old.state purpose tail.now).session) }
         ensures same { AreOfOneMachine machine.old.state machine.new.state }
@@ -513,6 +593,7 @@ impl<L: Levels, U: DueTicks> Session<L, U> {
                 Ok(())
             }
             Purpose::Resume(how) => self.resume(machine, first_turn(how), out),
+            Purpose::Back(way) => self.search(machine, first_search(way, machine.ticks()), out),
             Purpose::Run => self.begin(machine, out),
             Purpose::Restart => {
                 self.restart(machine);
@@ -522,23 +603,25 @@ impl<L: Levels, U: DueTicks> Session<L, U> {
         }
     }
 
-    /// Takes a packet while a run waits for the reply to a question: any other packet is skipped.
+    /// Takes a packet while something waits for the reply to a question: any other packet is skipped.
     fn take_reply<D: Decider, C: KeptCode, W: Out>(
         &mut self,
         machine: &mut Machine<D, C, L, U>,
-        run: Run,
+        waiting: Waiting,
         packet: Packet<'_>,
         out: &mut W,
     ) -> Result<(), IoError>
         requires { AreOfOneMachine self.old.past.start machine.old.state }
-        ensures tells { Tells (reply_heard self.old machine.old.state run (seen_packet packet.entry)).pieces machine.old
+        ensures delivers { Delivers
+            (reply_answered self.old machine.old.state waiting (seen_packet packet.entry)).pieces machine.old
             machine.new (W.writing out.old) (W.writing out.new) result }
         ensures kept { OnOk result
-            (self.new ≡ (reply_heard self.old machine.old.state run (seen_packet packet.entry)).session) }
+            (self.new ≡ (reply_answered self.old machine.old.state waiting (seen_packet packet.entry)).session) }
         ensures same { AreOfOneMachine machine.old.state machine.new.state }
     {
         if is_file_reply(packet.request) {
-            self.resume(machine, interrupted_by(packet.tail, run), out)
+            let waiting = interrupted_if(is_interrupt(packet.tail), waiting);
+            self.run_turn(machine, waiting, out)
         } else {
             Ok(())
         }
@@ -552,14 +635,15 @@ impl<L: Levels, U: DueTicks> Session<L, U> {
         out: &mut W,
     ) -> Result<(), IoError>
         requires { AreOfOneMachine self.old.past.start machine.old.state }
-        ensures tells { Tells (packet_heard self.old machine.old.state (seen_packet packet.entry)).pieces machine.old
+        ensures delivers { Delivers (packet_answered self.old machine.old.state (seen_packet packet.entry)).pieces
+            machine.old
             machine.new (W.writing out.old) (W.writing out.new) result }
         ensures kept { OnOk result
-            (self.new ≡ (packet_heard self.old machine.old.state (seen_packet packet.entry)).session) }
+            (self.new ≡ (packet_answered self.old machine.old.state (seen_packet packet.entry)).session) }
         ensures same { AreOfOneMachine machine.old.state machine.new.state }
     {
         match self.waiting() {
-            Some(run) => self.take_reply(machine, run, packet, out),
+            Some(waiting) => self.take_reply(machine, waiting, packet, out),
             None => {
                 let purpose = purpose_of(packet.request, packet.tail);
                 self.answer(machine, purpose, packet.tail, out)
@@ -574,7 +658,7 @@ impl<L: Levels, U: DueTicks> Session<L, U> {
         byte: u8,
         out: &mut W,
     ) -> Result<(), IoError>
-        ensures { Tells (acknowledgement self.now machine.now.state byte) machine.now machine.now
+        ensures { Delivers (acknowledgement self.now machine.now.state byte) machine.now machine.now
             (W.writing out.old) (W.writing out.new) result }
     {
         let _ = machine;
@@ -591,7 +675,7 @@ impl<L: Levels, U: DueTicks> Session<L, U> {
         machine: &Machine<D, C, L, U>,
         out: &mut W,
     ) -> Result<(), IoError>
-        ensures { Tells (sent_again self.now machine.now.state) machine.now machine.now
+        ensures { Delivers (sent_again self.now machine.now.state) machine.now machine.now
             (W.writing out.old) (W.writing out.new) result }
     {
         let _ = machine;
@@ -602,27 +686,23 @@ impl<L: Levels, U: DueTicks> Session<L, U> {
         }
     }
 
-    /// Interrupts a run that waits. At rest nothing changes.
+    /// Interrupts what waits. At rest nothing changes.
     fn interrupt(&mut self)
         ensures { self.new ≡ interrupted self.old }
     {
         match self.running {
-            Some(run) => {
-                let mut run = run;
-                run.is_interrupted = true;
-                self.running = Some(run);
-            }
+            Some(waiting) => self.running = Some(interrupted_if(true, waiting)),
             None => {}
         }
     }
 
-    /// Refuses a packet of too many bytes. While a run waits it is skipped.
+    /// Refuses a packet of too many bytes. While something waits it is skipped.
     fn refuse_long<D: Decider, C: KeptCode, W: Out>(
         &mut self,
         machine: &Machine<D, C, L, U>,
         out: &mut W,
     ) -> Result<(), IoError>
-        ensures tells { Tells (too_long self.old machine.now.state).pieces machine.now machine.now
+        ensures delivers { Delivers (too_long self.old machine.now.state).pieces machine.now machine.now
             (W.writing out.old) (W.writing out.new) result }
         ensures kept { self.new ≡ (too_long self.old machine.now.state).session }
     {
@@ -640,9 +720,10 @@ impl<L: Levels, U: DueTicks> Session<L, U> {
         out: &mut W,
     ) -> Result<(), IoError>
         requires { AreOfOneMachine self.old.past.start machine.old.state }
-        ensures tells { Tells (whole_heard self.old machine.old.state content.now).pieces machine.old machine.new
+        ensures delivers { Delivers (whole_answered self.old machine.old.state content.now).pieces machine.old
+            machine.new
             (W.writing out.old) (W.writing out.new) result }
-        ensures kept { OnOk result (self.new ≡ (whole_heard self.old machine.old.state content.now).session) }
+        ensures kept { OnOk result (self.new ≡ (whole_answered self.old machine.old.state content.now).session) }
         ensures same { AreOfOneMachine machine.old.state machine.new.state }
     {
         match self.acknowledge(machine, b'+', out) {
@@ -658,9 +739,9 @@ impl<L: Levels, U: DueTicks> Session<L, U> {
         machine: &Machine<D, C, L, U>,
         out: &mut W,
     ) -> Result<(), IoError>
-        ensures tells { Tells (long_heard self.old machine.now.state).pieces machine.now machine.now
+        ensures delivers { Delivers (long_answered self.old machine.now.state).pieces machine.now machine.now
             (W.writing out.old) (W.writing out.new) result }
-        ensures kept { OnOk result (self.new ≡ (long_heard self.old machine.now.state).session) }
+        ensures kept { OnOk result (self.new ≡ (long_answered self.old machine.now.state).session) }
     {
         match self.acknowledge(machine, b'+', out) {
             Ok(()) => {}
@@ -678,9 +759,10 @@ impl<L: Levels, U: DueTicks> Session<L, U> {
         out: &mut W,
     ) -> Result<(), IoError>
         requires { AreOfOneMachine self.old.past.start machine.old.state }
-        ensures tells { Tells (heard self.old machine.old.state event content.now).pieces machine.old machine.new
+        ensures delivers { Delivers (event_answered self.old machine.old.state event content.now).pieces machine.old
+            machine.new
             (W.writing out.old) (W.writing out.new) result }
-        ensures kept { OnOk result (self.new ≡ (heard self.old machine.old.state event content.now).session) }
+        ensures kept { OnOk result (self.new ≡ (event_answered self.old machine.old.state event content.now).session) }
         ensures same { AreOfOneMachine machine.old.state machine.new.state }
     {
         match event {

@@ -5,18 +5,18 @@ ghost use Rattle.gdb.specs.Targets.{altered_if};
 ghost use Rattle.gdb_server.specs.Writes.{Writes, after_place, are_there, block_written, byte_beside, byte_there};
 ghost use Rattle.gdb_server.specs.Writes.{is_of_device};
 ghost use Rattle.gdb_server.specs.Writes.{memory_written, register_after, registers_written, with_byte};
-ghost use Rattle.gdb_server.specs.Writes.{with_bytes, word_beside, word_of, word_written, written};
+ghost use Rattle.gdb_server.specs.Writes.{with_bytes, word_beside, word_of, word_written, writes, written};
 ghost use Rattle.platform.specs.Memory.{byte_at};
 
 use crate::content::Data;
 use crate::purposes::MachineChange;
 use gdb::place_of;
 use gdb_texts::{word_at, written_register};
-use machine::{Decider, DueTicks, KeptCode, Levels, Machine, Place, PlaceError};
+use machine::{Decider, Exceptions, KeptCode, Machine, Place, PlaceError, SysTickState};
 use platform::map::is_in_ppb;
 
 /// Puts a value into its place, None into a register that no machine has. Returns why it was refused, if it was.
-pub fn put<D: Decider, C: KeptCode, L: Levels, U: DueTicks>(
+pub fn put<D: Decider, C: KeptCode, L: Exceptions, U: SysTickState>(
     machine: &mut Machine<D, C, L, U>,
     place: Option<Place>,
 ) -> Option<PlaceError>
@@ -33,7 +33,7 @@ pub fn put<D: Decider, C: KeptCode, L: Levels, U: DueTicks>(
 }
 
 /// Writes the register that comes after `index` others, from the digits of all registers.
-fn put_register<D: Decider, C: KeptCode, L: Levels, U: DueTicks>(
+fn put_register<D: Decider, C: KeptCode, L: Exceptions, U: SysTickState>(
     machine: &mut Machine<D, C, L, U>,
     digits: &[u8],
     index: u32,
@@ -46,7 +46,7 @@ fn put_register<D: Decider, C: KeptCode, L: Levels, U: DueTicks>(
 }
 
 /// Writes all registers, from their digits, up to the first that is refused.
-fn put_registers<D: Decider, C: KeptCode, L: Levels, U: DueTicks>(
+fn put_registers<D: Decider, C: KeptCode, L: Exceptions, U: SysTickState>(
     machine: &mut Machine<D, C, L, U>,
     digits: &[u8],
 ) -> Option<PlaceError>
@@ -62,7 +62,7 @@ fn put_registers<D: Decider, C: KeptCode, L: Levels, U: DueTicks>(
 }
 
 /// Returns the byte of flash or RAM at an address, and 0 where there is none.
-fn byte_there<D: Decider, C: KeptCode, L: Levels, U: DueTicks>(
+fn byte_there<D: Decider, C: KeptCode, L: Exceptions, U: SysTickState>(
     machine: &Machine<D, C, L, U>,
     address: u32,
 ) -> u8
@@ -75,7 +75,7 @@ fn byte_there<D: Decider, C: KeptCode, L: Levels, U: DueTicks>(
 }
 
 /// Returns the byte at an address once another byte is at `address`.
-fn byte_beside<D: Decider, C: KeptCode, L: Levels, U: DueTicks>(
+fn byte_beside<D: Decider, C: KeptCode, L: Exceptions, U: SysTickState>(
     machine: &Machine<D, C, L, U>,
     address: u32,
     byte: u8,
@@ -91,7 +91,7 @@ fn byte_beside<D: Decider, C: KeptCode, L: Levels, U: DueTicks>(
 }
 
 /// Returns the word that has an address, with another byte there.
-fn word_beside<D: Decider, C: KeptCode, L: Levels, U: DueTicks>(
+fn word_beside<D: Decider, C: KeptCode, L: Exceptions, U: SysTickState>(
     machine: &Machine<D, C, L, U>,
     address: u32,
     byte: u8,
@@ -106,7 +106,7 @@ fn word_beside<D: Decider, C: KeptCode, L: Levels, U: DueTicks>(
 }
 
 /// Writes a byte of flash or RAM.
-fn put_byte<D: Decider, C: KeptCode, L: Levels, U: DueTicks>(
+fn put_byte<D: Decider, C: KeptCode, L: Exceptions, U: SysTickState>(
     machine: &mut Machine<D, C, L, U>,
     address: u32,
     byte: u8,
@@ -119,7 +119,7 @@ fn put_byte<D: Decider, C: KeptCode, L: Levels, U: DueTicks>(
 
 /// Writes bytes of flash or RAM, from an address on.
 #[tactic(auto, unfolding(crate::specs::Writes::with_bytes))]
-fn put_bytes<D: Decider, C: KeptCode, L: Levels, U: DueTicks>(
+fn put_bytes<D: Decider, C: KeptCode, L: Exceptions, U: SysTickState>(
     machine: &mut Machine<D, C, L, U>,
     address: u32,
     bytes: &[u8],
@@ -135,7 +135,7 @@ fn put_bytes<D: Decider, C: KeptCode, L: Levels, U: DueTicks>(
 }
 
 /// Returns whether `length` bytes from an address on lie wholly in flash, in RAM or in the second RAM.
-fn are_there<D: Decider, C: KeptCode, L: Levels, U: DueTicks>(
+fn are_there<D: Decider, C: KeptCode, L: Exceptions, U: SysTickState>(
     machine: &Machine<D, C, L, U>,
     address: u32,
     length: usize,
@@ -146,7 +146,7 @@ fn are_there<D: Decider, C: KeptCode, L: Levels, U: DueTicks>(
 }
 
 /// Writes bytes that are all in flash, or all in RAM.
-fn put_block<D: Decider, C: KeptCode, L: Levels, U: DueTicks>(
+fn put_block<D: Decider, C: KeptCode, L: Exceptions, U: SysTickState>(
     machine: &mut Machine<D, C, L, U>,
     address: u32,
     bytes: &[u8],
@@ -184,7 +184,7 @@ fn word_of(bytes: &[u8]) -> u32
 }
 
 /// Returns whether a device has an address.
-fn is_of_device<D: Decider, C: KeptCode, L: Levels, U: DueTicks>(
+fn is_of_device<D: Decider, C: KeptCode, L: Exceptions, U: SysTickState>(
     machine: &Machine<D, C, L, U>,
     address: u32,
 ) -> bool
@@ -194,7 +194,7 @@ fn is_of_device<D: Decider, C: KeptCode, L: Levels, U: DueTicks>(
 }
 
 /// Writes bytes that aren't in flash or RAM: a word of the Private Peripheral Bus or of a device.
-fn put_word<D: Decider, C: KeptCode, L: Levels, U: DueTicks>(
+fn put_word<D: Decider, C: KeptCode, L: Exceptions, U: SysTickState>(
     machine: &mut Machine<D, C, L, U>,
     address: u32,
     bytes: &[u8],
@@ -212,7 +212,7 @@ fn put_word<D: Decider, C: KeptCode, L: Levels, U: DueTicks>(
 
 /// Writes bytes, from an address on, all of them or none.
 #[tactic(auto, using(crate::proofs::Bytes::fits))]
-fn put_memory<D: Decider, C: KeptCode, L: Levels, U: DueTicks>(
+fn put_memory<D: Decider, C: KeptCode, L: Exceptions, U: SysTickState>(
     machine: &mut Machine<D, C, L, U>,
     address: u32,
     bytes: &[u8],
@@ -229,8 +229,18 @@ fn put_memory<D: Decider, C: KeptCode, L: Levels, U: DueTicks>(
     }
 }
 
+/// Returns whether a packet writes something.
+pub fn writes(change: MachineChange, tail: &[u8]) -> bool
+    ensures { result ≡ writes change tail.now }
+{
+    match change {
+        MachineChange::Register(_) | MachineChange::Registers => true,
+        MachineChange::Digits(_) | MachineChange::Bytes(_) => !tail.is_empty(),
+    }
+}
+
 /// Writes what a packet asks for. Returns why it was refused, if it was.
-pub fn write<D: Decider, C: KeptCode, L: Levels, U: DueTicks>(
+pub fn write<D: Decider, C: KeptCode, L: Exceptions, U: SysTickState>(
     machine: &mut Machine<D, C, L, U>,
     change: MachineChange,
     tail: &[u8],

@@ -5,11 +5,11 @@ use Rattle.gdb_packets.specs.Replies.{packet_of}
 use Rattle.gdb_texts.specs.Bytes.{bytes_text}
 
 -- the most bytes of text in a packet, so that its data has at most 4,095 bytes (profile)
-abbrev pub most_text : ℕ
-most_text = 2047
+abbrev pub max_text : ℕ
+max_text = 2047
 
 abbrev pub is_full : List ℕ → Bool
-is_full text = length text == most_text
+is_full text = length text == max_text
 
 -- the packet of some text
 abbrev pub console_packet : List ℕ → List ℕ

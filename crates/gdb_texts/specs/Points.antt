@@ -10,8 +10,8 @@ use Rattle.gdb_texts.specs.declared.replies.Reply.{Reply}
 use Rattle.gdb_texts.specs.declared.replies.Reply.TheVariants.{Done, Error}
 
 -- the most breakpoints, of both kinds together (profile)
-abbrev pub most_breakpoints : ℕ
-most_breakpoints = 64
+abbrev pub max_breakpoints : ℕ
+max_breakpoints = 64
 
 abbrev pub is_same_kind : BreakpointKind → BreakpointKind → Bool
 is_same_kind Software Software = true
@@ -29,13 +29,13 @@ is_set breakpoints b = list_any (λ other. is_same b other) breakpoints
 abbrev pub with_breakpoint : List Breakpoint → Breakpoint → List Breakpoint
 with_breakpoint breakpoints b =
     if is_set breakpoints b then breakpoints
-    else if nat_lt (length breakpoints) most_breakpoints then breakpoints ++ b ∷ []
+    else if nat_lt (length breakpoints) max_breakpoints then breakpoints ++ b ∷ []
     else breakpoints
 
 -- the reply to Z. A breakpoint that is set is no error: GDB may send a packet again
 abbrev pub insertion : List Breakpoint → Breakpoint → Reply
 insertion breakpoints b =
-    if is_set breakpoints b || nat_lt (length breakpoints) most_breakpoints then Done else Error NoRoom
+    if is_set breakpoints b || nat_lt (length breakpoints) max_breakpoints then Done else Error NoRoom
 
 abbrev pub without_at : List Breakpoint → Option ℕ → List Breakpoint
 without_at breakpoints None = breakpoints

@@ -47,5 +47,5 @@ abbrev pub steps_in : Option ℕ → Bool → Option ℕ
 steps_in None is_gdb = if is_gdb then None else Some 50000000
 steps_in (Some steps) is_gdb = if steps == 0 then None else Some steps
 
-abbrev pub most_steps : Settings → Bool → Option ℕ
-most_steps s is_gdb = steps_in s.budget is_gdb
+abbrev pub max_steps : Settings → Bool → Option ℕ
+max_steps s is_gdb = steps_in s.budget is_gdb

@@ -14,8 +14,8 @@ use Rattle.gdb_texts.specs.declared.transfers.TheConstants.{DESCRIPTION, MAP_HEA
 -- ---- pieces
 
 -- the most bytes of a piece (profile)
-abbrev pub most_piece : ℕ
-most_piece = 4095
+abbrev pub max_piece : ℕ
+max_piece = 4095
 
 -- `l` and the rest of a text, where it has at most `count` bytes, or else `m` and its first `count` bytes
 abbrev pub piece_of : List ℕ → ℕ → List ℕ
@@ -24,7 +24,7 @@ piece_of rest count = if nat_le (length rest) count then codes "l" ++ rest else 
 -- the reply to a request for `count` bytes from an offset on
 abbrev pub piece_text : List ℕ → ℕ → ℕ → List ℕ
 piece_text text offset count =
-    if nat_lt (length text) offset then error_text Malformed else piece_of (drop offset text) (min count most_piece)
+    if nat_lt (length text) offset then error_text Malformed else piece_of (drop offset text) (min count max_piece)
 
 -- ---- target.xml: the registers, those of GDB's features `m-profile` and `m-system`
 

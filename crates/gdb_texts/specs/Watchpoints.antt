@@ -15,8 +15,8 @@ use Rattle.gdb_texts.specs.declared.watchpoints.WatchHit.{WatchHit}
 use Rattle.gdb_texts.specs.declared.watchpoints.Watchpoint.{Watchpoint}
 
 -- the most watchpoints (profile)
-abbrev pub most_watchpoints : ℕ
-most_watchpoints = 16
+abbrev pub max_watchpoints : ℕ
+max_watchpoints = 16
 
 abbrev pub is_same_kind : WatchKind → WatchKind → Bool
 is_same_kind watch.Write watch.Write = true
@@ -39,13 +39,13 @@ is_set watchpoints w = list_any (λ other. is_same w other) watchpoints
 abbrev pub with_watchpoint : List Watchpoint → Watchpoint → List Watchpoint
 with_watchpoint watchpoints w =
     if is_set watchpoints w then watchpoints
-    else if nat_lt (length watchpoints) most_watchpoints then watchpoints ++ w ∷ []
+    else if nat_lt (length watchpoints) max_watchpoints then watchpoints ++ w ∷ []
     else watchpoints
 
 -- the reply to Z2, Z3 and Z4
 abbrev pub insertion : List Watchpoint → Watchpoint → Reply
 insertion watchpoints w =
-    if is_set watchpoints w || nat_lt (length watchpoints) most_watchpoints then Done else Error NoRoom
+    if is_set watchpoints w || nat_lt (length watchpoints) max_watchpoints then Done else Error NoRoom
 
 abbrev pub without_at : List Watchpoint → Option ℕ → List Watchpoint
 without_at watchpoints None = watchpoints

@@ -10,12 +10,12 @@ use gdb_packets::put_packet;
 use std::marker::Model;
 
 /// The most bytes of text in a packet.
-pub const MOST_TEXT: usize = 2047;
+pub const MAX_TEXT: usize = 2047;
 
 /// The text that waits for its packet.
 #[derive(Drop)]
 pub struct ConsoleText {
-    bytes: ArrayVec<u8, MOST_TEXT>,
+    bytes: ArrayVec<u8, MAX_TEXT>,
 }
 
 impl Model for ConsoleText {
@@ -27,7 +27,6 @@ impl Model for ConsoleText {
 }
 
 impl ConsoleText {
-    /// Returns no text.
     pub fn new() -> Self
         ensures { result ≡ [] }
     {
@@ -36,7 +35,6 @@ impl ConsoleText {
         }
     }
 
-    /// Returns whether no text waits.
     pub fn is_empty(&self) -> bool
         ensures { result ≡ (length self.now == 0) }
     {
@@ -48,7 +46,7 @@ impl ConsoleText {
         ensures full { result ≡ is_full self.now }
         ensures short { length self.now ≤ 2047 }
     {
-        self.bytes.len() == MOST_TEXT
+        self.bytes.len() == MAX_TEXT
     }
 
     /// Appends a byte of text.

@@ -9,7 +9,7 @@ use arrayvec::ArrayVec;
 use std::marker::Model;
 
 /// The most breakpoints, of both kinds together.
-pub const MOST_BREAKPOINTS: usize = 64;
+pub const MAX_BREAKPOINTS: usize = 64;
 
 /// How a breakpoint was set.
 #[derive(Clone, Copy)]
@@ -66,7 +66,7 @@ fn is_same(breakpoint: Breakpoint, other: Breakpoint) -> bool
 /// The breakpoints that are set, in the order in which they were.
 #[derive(Drop)]
 pub struct Breakpoints {
-    items: ArrayVec<Breakpoint, MOST_BREAKPOINTS>,
+    items: ArrayVec<Breakpoint, MAX_BREAKPOINTS>,
 }
 
 impl Model for Breakpoints {
@@ -79,7 +79,6 @@ impl Model for Breakpoints {
 }
 
 impl Breakpoints {
-    /// Returns no breakpoint.
     pub fn new() -> Self
         ensures { result ≡ [] }
     {
@@ -112,7 +111,7 @@ impl Breakpoints {
     {
         if self.is_set(breakpoint) {
             Reply::Done
-        } else if self.items.len() < MOST_BREAKPOINTS {
+        } else if self.items.len() < MAX_BREAKPOINTS {
             self.items.push(breakpoint);
             Reply::Done
         } else {

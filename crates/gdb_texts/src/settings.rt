@@ -1,7 +1,7 @@
 //! The settings of a session, which `monitor` changes.
 
 ghost use Rattle.std.specs.Prelude.{◌≡◌};
-ghost use Rattle.gdb_texts.specs.Settings.{first_settings, most_steps, settings_after, steps_in, with_condition};
+ghost use Rattle.gdb_texts.specs.Settings.{first_settings, max_steps, settings_after, steps_in, with_condition};
 
 use crate::monitor::Monitor;
 use debugger_commands::{Condition, LineSelection};
@@ -91,8 +91,8 @@ fn steps_in(budget: Option<u32>, is_gdb: bool) -> Option<u32>
 }
 
 /// Returns the most steps of a run, None where there is no limit.
-pub fn most_steps(settings: Settings, is_gdb: bool) -> Option<u32>
-    ensures { result ≡ most_steps settings is_gdb }
+pub fn max_steps(settings: Settings, is_gdb: bool) -> Option<u32>
+    ensures { result ≡ max_steps settings is_gdb }
 {
     steps_in(settings.budget, is_gdb)
 }

@@ -13,10 +13,10 @@ use platform::board::Layout;
 use platform::map::RAM_BASE;
 
 /// The most stretches that a board has.
-pub const MOST_STRETCHES: usize = 262;
+pub const MAX_STRETCHES: usize = 262;
 
 /// Stretches of a board.
-pub type Stretches = ArrayVec<Stretch, MOST_STRETCHES>;
+pub type Stretches = ArrayVec<Stretch, MAX_STRETCHES>;
 
 /// The device window.
 const WINDOW: Stretch = Stretch {
@@ -120,7 +120,6 @@ fn second_of(layout: &Layout) -> Option<Stretch>
     }
 }
 
-/// Returns what a device has.
 fn device_of(device: &Device) -> Stretch
     ensures { result ≡ spec.device_of device.now }
 {

@@ -262,9 +262,9 @@ fn commands_of_monitor_are_read(rt: HostRuntime) -> Result<(), Fail> {
         assert!(rt; read_as(text) == word, "{text}");
     }
     let settings = settings_after(first_settings(), Monitor::Budget(7));
-    assert!(rt; most_steps(settings, true) == Some(7));
-    assert!(rt; most_steps(first_settings(), true).is_none());
-    assert!(rt; most_steps(first_settings(), false) == Some(50_000_000));
+    assert!(rt; max_steps(settings, true) == Some(7));
+    assert!(rt; max_steps(first_settings(), true).is_none());
+    assert!(rt; max_steps(first_settings(), false) == Some(50_000_000));
     assert!(rt; monitor_help().starts_with(b"explain "));
     assert!(rt;
         why_text(Some(ErrorCode::Malformed)) == "E05: a packet not of its form\n".as_bytes()

@@ -13,6 +13,7 @@ explain <a> p|u r|w|x       shows the rule that would decide an access, and says
 regions                     shows RBAR and RASR of each region of the MPU
 state                       shows registers, the clock, fault registers, regions and exceptions
 next                        shows the kind of the next step, or the stop line
+history                     shows the ticks to which going back undoes a write, the first one, and now
 trace <which>               chooses the lines of steps: all, refused, exceptions, console or none
 trace on|off                the same as all, and as console
 lines on|off                sets whether lines say why a run ended

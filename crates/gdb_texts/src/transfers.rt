@@ -16,7 +16,7 @@ use devices::Device;
 use platform::board::Layout;
 
 /// The most bytes of a piece.
-const MOST_PIECE: u32 = 4095;
+const MAX_PIECE: u32 = 4095;
 
 /// The registers, as GDB numbers them.
 pub const DESCRIPTION: &str = "\
@@ -110,7 +110,7 @@ pub fn put_piece<const ROOM: usize>(
     if text.len() < offset as usize {
         put_text(page, error_text(ErrorCode::Malformed));
     } else {
-        put_piece_of(page, &text[offset as usize..], count.min(MOST_PIECE));
+        put_piece_of(page, &text[offset as usize..], count.min(MAX_PIECE));
     }
 }
 

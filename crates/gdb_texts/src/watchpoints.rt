@@ -12,7 +12,7 @@ use platform::access::{Access, Kind};
 use std::marker::Model;
 
 /// The most watchpoints.
-pub const MOST_WATCHPOINTS: usize = 16;
+pub const MAX_WATCHPOINTS: usize = 16;
 
 impl Default for WatchKind {
     fn default() -> Self {
@@ -127,7 +127,7 @@ fn hit_by(access: &Access, watchpoint: Option<Watchpoint>) -> Option<WatchHit>
 /// The watchpoints that are set, in the order in which they were.
 #[derive(Drop)]
 pub struct Watchpoints {
-    items: ArrayVec<Watchpoint, MOST_WATCHPOINTS>,
+    items: ArrayVec<Watchpoint, MAX_WATCHPOINTS>,
 }
 
 impl Model for Watchpoints {
@@ -140,7 +140,6 @@ impl Model for Watchpoints {
 }
 
 impl Watchpoints {
-    /// Returns no watchpoint.
     pub fn new() -> Self
         ensures { result ≡ [] }
     {
@@ -173,7 +172,7 @@ impl Watchpoints {
     {
         if self.is_set(watchpoint) {
             Reply::Done
-        } else if self.items.len() < MOST_WATCHPOINTS {
+        } else if self.items.len() < MAX_WATCHPOINTS {
             self.items.push(watchpoint);
             Reply::Done
         } else {

@@ -1,7 +1,7 @@
 -- The rows of 32 bits in "Load/store dual or exclusive, table branch" (ARM DDI 0403, "32-bit Thumb instruction
 -- encoding").
 use Rattle.std.specs.Prelude.{ℕ, ◌*◌, Bool, ◌&&◌, ◌||◌, ◌==◌, List, [], ◌∷◌, codes}
-use Rattle.instruction_set.specs.declared.instruction.BlockPlace.TheVariants as place
+use Rattle.instruction_set.specs.declared.instruction.ItPosition.TheVariants as place
 use Rattle.instruction_set.specs.declared.branch.Branch.TheVariants as branch
 use Rattle.instruction_set.specs.declared.instruction.Decoded.{Decoded}
 use Rattle.instruction_set.specs.declared.load_store.Exclusive.TheVariants as exclusive

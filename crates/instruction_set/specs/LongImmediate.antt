@@ -2,7 +2,7 @@
 -- and which registers an operation allows.
 use Rattle.std.specs.Prelude.{ℕ, ◌^◌, nat_lt, Bool, true, false, not, ◌&&◌, ◌||◌, ◌==◌, if◌then◌else◌, List, [], ◌∷◌}
 use Rattle.std.specs.Prelude.{Option, Some, None, codes}
-use Rattle.instruction_set.specs.declared.instruction.BlockPlace.TheVariants as place
+use Rattle.instruction_set.specs.declared.instruction.ItPosition.TheVariants as place
 use Rattle.instruction_set.specs.declared.data_processing.DataProcessing.TheVariants.{DataImmediate, MoveImmediate}
 use Rattle.instruction_set.specs.declared.data_processing.DataProcessing.TheVariants.{CompareImmediate}
 use Rattle.instruction_set.specs.declared.instruction.Decoded.{Decoded}

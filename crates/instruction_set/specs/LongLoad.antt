@@ -1,8 +1,8 @@
 -- The rows of 32 bits in "Load byte, memory hints", "Load halfword, memory hints" and "Load word" (ARM DDI 0403,
 -- "32-bit Thumb instruction encoding").
 use Rattle.std.specs.Prelude.{ℕ, Bool, true, false, not, ◌&&◌, ◌||◌, ◌==◌, if◌then◌else◌, List, [], ◌∷◌, codes}
-use Rattle.instruction_set.specs.declared.instruction.BlockPlace.{BlockPlace}
-use Rattle.instruction_set.specs.declared.instruction.BlockPlace.TheVariants as place
+use Rattle.instruction_set.specs.declared.instruction.ItPosition.{ItPosition}
+use Rattle.instruction_set.specs.declared.instruction.ItPosition.TheVariants as place
 use Rattle.instruction_set.specs.declared.instruction.Decoded.{Decoded}
 use Rattle.instruction_set.specs.declared.system.Hint.TheVariants as hint
 use Rattle.instruction_set.specs.declared.instruction.Instruction.TheVariants.{LoadStore, System}
@@ -29,7 +29,7 @@ abbrev pub word_form : LoadForm
 word_form = record { size = Word; signed = false }
 
 -- where a load may be in an IT block: a word that is loaded to PC branches
-abbrev pub place_of_load : Size → ℕ → BlockPlace
+abbrev pub place_of_load : Size → ℕ → ItPosition
 place_of_load size t = last_only_if (is_word size && t == 15)
 
 -- whether a load refuses its target: a byte or a halfword goes neither to SP nor to PC

@@ -1,7 +1,7 @@
 -- The rows of 32 bits in "Load Multiple and Store Multiple" (ARM DDI 0403, "32-bit Thumb instruction encoding").
 use Rattle.std.specs.Prelude.{ℕ, ◌+◌, ◌*◌, ◌^◌, nat_lt, Bool, ◌&&◌, ◌||◌, ◌==◌, List, [], ◌∷◌, codes}
 use Rattle.std.specs.Int.RustNames.{count_ones}
-use Rattle.instruction_set.specs.declared.instruction.BlockPlace.TheVariants as place
+use Rattle.instruction_set.specs.declared.instruction.ItPosition.TheVariants as place
 use Rattle.instruction_set.specs.declared.instruction.Decoded.{Decoded}
 use Rattle.instruction_set.specs.declared.instruction.Instruction.TheVariants.{LoadStoreMultiple}
 use Rattle.instruction_set.specs.declared.instruction.InstructionLength.TheVariants.{Long}

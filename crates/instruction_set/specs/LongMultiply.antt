@@ -1,7 +1,7 @@
 -- The rows of 32 bits in "Multiply, multiply accumulate, and absolute difference" and "Long multiply, long multiply
 -- accumulate, and divide", and the coprocessors' (ARM DDI 0403, "32-bit Thumb instruction encoding").
 use Rattle.std.specs.Prelude.{ℕ, ◌||◌, ◌==◌, List, [], ◌∷◌, codes}
-use Rattle.instruction_set.specs.declared.instruction.BlockPlace.TheVariants as place
+use Rattle.instruction_set.specs.declared.instruction.ItPosition.TheVariants as place
 use Rattle.instruction_set.specs.declared.data_processing.DataProcessing.TheVariants as processing
 use Rattle.instruction_set.specs.declared.instruction.Decoded.{Decoded}
 use Rattle.instruction_set.specs.declared.instruction.Decoded.TheVariants.{NoCoprocessor}

@@ -1,6 +1,6 @@
 -- The rows of 32 bits in "Data processing (shifted register)" (ARM DDI 0403, "32-bit Thumb instruction encoding").
 use Rattle.std.specs.Prelude.{ℕ, nat_lt, Bool, true, false, not, ◌&&◌, ◌||◌, ◌==◌, if◌then◌else◌, List, [], ◌∷◌, codes}
-use Rattle.instruction_set.specs.declared.instruction.BlockPlace.TheVariants as place
+use Rattle.instruction_set.specs.declared.instruction.ItPosition.TheVariants as place
 use Rattle.instruction_set.specs.declared.data_processing.DataProcessing.TheVariants.{DataRegister, MoveRegister}
 use Rattle.instruction_set.specs.declared.data_processing.DataProcessing.TheVariants.{CompareRegister}
 use Rattle.instruction_set.specs.declared.instruction.Decoded.{Decoded}

@@ -1,7 +1,7 @@
 -- The rows of 32 bits in "Store single data item" (ARM DDI 0403, "32-bit Thumb instruction encoding"). The size 11 and
 -- the base 1111 are UNDEFINED.
 use Rattle.std.specs.Prelude.{ℕ, Bool, true, false, not, ◌&&◌, ◌||◌, ◌==◌, if◌then◌else◌, List, [], ◌∷◌, codes}
-use Rattle.instruction_set.specs.declared.instruction.BlockPlace.TheVariants as place
+use Rattle.instruction_set.specs.declared.instruction.ItPosition.TheVariants as place
 use Rattle.instruction_set.specs.declared.instruction.Decoded.{Decoded}
 use Rattle.instruction_set.specs.declared.instruction.Instruction.TheVariants.{LoadStore}
 use Rattle.instruction_set.specs.declared.load_store.LoadStore.TheVariants as load_store

@@ -3,8 +3,8 @@
 use Rattle.std.specs.Prelude.{ℕ, Bool, true, false, not, ◌&&◌, ◌||◌, ◌==◌, if◌then◌else◌, List, Option, Some, None}
 use Rattle.std.specs.Prelude.{find}
 use Rattle.std.specs.List.{list_any}
-use Rattle.instruction_set.specs.declared.instruction.BlockPlace.{BlockPlace}
-use Rattle.instruction_set.specs.declared.instruction.BlockPlace.TheVariants.{Anywhere, LastOnly}
+use Rattle.instruction_set.specs.declared.instruction.ItPosition.{ItPosition}
+use Rattle.instruction_set.specs.declared.instruction.ItPosition.TheVariants.{Anywhere, LastOnly}
 use Rattle.instruction_set.specs.declared.instruction.Decoded.{Decoded}
 use Rattle.instruction_set.specs.declared.instruction.Decoded.TheVariants.{Instr, Unpredictable}
 use Rattle.instruction_set.specs.declared.instruction.Instruction.{Instruction}
@@ -123,15 +123,15 @@ abbrev pub long : Instruction → Decoded
 long instruction = Instr (record { instruction = instruction; length = Long; place = Anywhere })
 
 -- an instruction with the length of its encoding, and where in an IT block it may be
-abbrev pub placed : InstructionLength → BlockPlace → Instruction → Decoded
+abbrev pub placed : InstructionLength → ItPosition → Instruction → Decoded
 placed length place instruction = Instr (record { instruction = instruction; length = length; place = place })
 
 -- an instruction that writes the PC may only be the last of an IT block
-abbrev pub last_only_if : Bool → BlockPlace
+abbrev pub last_only_if : Bool → ItPosition
 last_only_if writes_pc = if writes_pc then LastOnly else Anywhere
 
 -- what a row says unless it is UNPREDICTABLE for that cause
-abbrev pub unless : Bool → BlockPlace → UnpredictableCase → Decoded → Decoded
+abbrev pub unless : Bool → ItPosition → UnpredictableCase → Decoded → Decoded
 unless true place cause decoded = Unpredictable place cause
 unless false place cause decoded = decoded
 

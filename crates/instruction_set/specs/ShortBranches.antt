@@ -1,7 +1,7 @@
 -- The rows of 16 bits in "Conditional branch, and Supervisor Call" and "Unconditional Branch" (ARM DDI 0403, "16-bit
 -- Thumb instruction encoding").
 use Rattle.std.specs.Prelude.{ℕ, ◌*◌, List, [], ◌∷◌, codes}
-use Rattle.instruction_set.specs.declared.instruction.BlockPlace.TheVariants as place
+use Rattle.instruction_set.specs.declared.instruction.ItPosition.TheVariants as place
 use Rattle.instruction_set.specs.declared.branch.Branch.TheVariants as branch
 use Rattle.instruction_set.specs.declared.instruction.Decoded.{Decoded}
 use Rattle.instruction_set.specs.declared.instruction.Decoded.TheVariants.{Undefined}

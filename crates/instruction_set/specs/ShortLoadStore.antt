@@ -1,7 +1,7 @@
 -- The rows of 16 bits that load and store: "Load from Literal Pool", "Load/store single data item", "Store multiple
 -- registers" and "Load multiple registers" (ARM DDI 0403, "16-bit Thumb instruction encoding").
 use Rattle.std.specs.Prelude.{ℕ, ◌*◌, ◌%◌, ◌^◌, Bool, true, false, not, ◌&&◌, ◌==◌, List, [], ◌∷◌, codes}
-use Rattle.instruction_set.specs.declared.instruction.BlockPlace.TheVariants as place
+use Rattle.instruction_set.specs.declared.instruction.ItPosition.TheVariants as place
 use Rattle.instruction_set.specs.declared.instruction.Decoded.{Decoded}
 use Rattle.instruction_set.specs.declared.instruction.Instruction.TheVariants.{LoadStore, LoadStoreMultiple}
 use Rattle.instruction_set.specs.declared.load_store.LoadStore.TheVariants.{LoadImmediate, LoadRegister, LoadLiteral}

@@ -1,7 +1,7 @@
 -- The rows of 16 bits in "Miscellaneous 16-bit instructions", and ADR and ADD of SP beside them (ARM DDI 0403, "16-bit
 -- Thumb instruction encoding").
 use Rattle.std.specs.Prelude.{ℕ, ◌+◌, ◌*◌, ◌^◌, Bool, true, false, not, ◌&&◌, ◌||◌, ◌==◌, List, [], ◌∷◌, codes}
-use Rattle.instruction_set.specs.declared.instruction.BlockPlace.TheVariants as place
+use Rattle.instruction_set.specs.declared.instruction.ItPosition.TheVariants as place
 use Rattle.instruction_set.specs.declared.branch.Branch.TheVariants as branch
 use Rattle.instruction_set.specs.declared.data_processing.DataProcessing.TheVariants.{DataImmediate, Address, Extend}
 use Rattle.instruction_set.specs.declared.data_processing.DataProcessing.TheVariants.{Rearrange}

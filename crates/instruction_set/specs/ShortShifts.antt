@@ -1,7 +1,7 @@
 -- The rows of 16 bits in "Shift (immediate), add, subtract, move, and compare" (ARM DDI 0403, "16-bit Thumb instruction
 -- encoding").
 use Rattle.std.specs.Prelude.{ℕ, List, [], ◌∷◌, codes}
-use Rattle.instruction_set.specs.declared.instruction.BlockPlace.TheVariants as place
+use Rattle.instruction_set.specs.declared.instruction.ItPosition.TheVariants as place
 use Rattle.instruction_set.specs.declared.data_processing.DataProcessing.TheVariants.{DataImmediate, DataRegister}
 use Rattle.instruction_set.specs.declared.data_processing.DataProcessing.TheVariants.{MoveImmediate, MoveRegister}
 use Rattle.instruction_set.specs.declared.data_processing.DataProcessing.TheVariants.{CompareImmediate}

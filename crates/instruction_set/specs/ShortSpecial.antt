@@ -1,7 +1,7 @@
 -- The rows of 16 bits in "Special data instructions and branch and exchange" (ARM DDI 0403, "16-bit Thumb instruction
 -- encoding").
 use Rattle.std.specs.Prelude.{ℕ, nat_lt, true, false, ◌&&◌, ◌||◌, ◌==◌, List, [], ◌∷◌, codes}
-use Rattle.instruction_set.specs.declared.instruction.BlockPlace.TheVariants as place
+use Rattle.instruction_set.specs.declared.instruction.ItPosition.TheVariants as place
 use Rattle.instruction_set.specs.declared.branch.Branch.TheVariants as branch
 use Rattle.instruction_set.specs.declared.data_processing.DataProcessing.TheVariants.{DataRegister, MoveRegister}
 use Rattle.instruction_set.specs.declared.data_processing.DataProcessing.TheVariants.{CompareRegister}

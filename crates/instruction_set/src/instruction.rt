@@ -20,7 +20,7 @@ pub enum Decoded {
     /// A row that is UNPREDICTABLE: where it may be in an IT block, and its first cause. The stop is
     /// `Encoding` if that is the cause, else `ItBlock` if the position isn't allowed, else the
     /// cause.
-    Unpredictable(BlockPlace, UnpredictableCase),
+    Unpredictable(ItPosition, UnpredictableCase),
 }
 
 /// An instruction as a row decodes to it.
@@ -28,7 +28,7 @@ pub enum Decoded {
 pub struct CodedInstruction {
     pub instruction: Instruction,
     pub length: InstructionLength,
-    pub place: BlockPlace,
+    pub place: ItPosition,
 }
 
 /// How long an instruction is.
@@ -55,7 +55,7 @@ impl InstructionLength {
 
 /// Where an instruction may be in an IT block.
 #[derive(Clone, Copy)]
-pub enum BlockPlace {
+pub enum ItPosition {
     Anywhere,
     /// As its last instruction alone, since it writes the PC.
     LastOnly,

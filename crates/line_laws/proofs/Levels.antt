@@ -8,7 +8,7 @@ use Rattle.devices.specs.declared.level.Level.{Level}
 use Rattle.devices.specs.Devices.{DeviceWords}
 use Rattle.devices.specs.Lines.{is_line_of, level_of, level_on, levels_by}
 use Rattle.line_laws.specs.LineLaw.{AreAt}
-use Rattle.platform.specs.declared.exception.TheConstants.{MOST_INTERRUPTS}
+use Rattle.platform.specs.declared.exception.TheConstants.{MAX_INTERRUPTS}
 use Rattle.platform.specs.declared.script.Signal.{Signal}
 use Rattle.platform.specs.declared.script.Signal.TheVariants.{Rise, Fall, Pulse, Nmi, Poke}
 use Rattle.platform.specs.System.{System, with_level, with_levels}
@@ -27,7 +27,7 @@ signal_length high (Poke p) = refl
 
 -- there is an input for each interrupt that there can be
 abbrev pub HasInputs : System → Type 0
-HasInputs s = length s.time.high ≡ MOST_INTERRUPTS
+HasInputs s = length s.time.high ≡ MAX_INTERRUPTS
 
 level_inputs : (s : System) (l : Level) → HasInputs s → HasInputs (with_level s l)
 level_inputs s l h =

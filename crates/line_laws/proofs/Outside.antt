@@ -17,7 +17,7 @@ use Rattle.nvic.proofs.Tables.{table_fresh}
 use Rattle.platform.specs.declared.access.Performed.{Performed}
 use Rattle.platform.specs.declared.access.Performed.TheVariants as performed
 use Rattle.platform.specs.declared.access.Rule.TheVariants.{PrivatePeripheralBus}
-use Rattle.platform.specs.declared.exception.TheConstants.{MOST_INTERRUPTS}
+use Rattle.platform.specs.declared.exception.TheConstants.{MAX_INTERRUPTS}
 use Rattle.platform.specs.declared.script.Signal.{Signal}
 use Rattle.platform.specs.declared.script.Signal.TheVariants.{Rise, Fall, Pulse, Nmi, Poke}
 use Rattle.platform.specs.Boards.{Described, blank}
@@ -128,5 +128,5 @@ unfolding start
 start_settled board image wired =
     cond_both (are_placed (blank board.numbers) image) _ _ (IfGiven IsSettled)
     (λ e. settled_of _
-    (settled_holds _ (rw (table_fresh board.devices) wired) (length-replicate MOST_INTERRUPTS false)))
+    (settled_holds _ (rw (table_fresh board.devices) wired) (length-replicate MAX_INTERRUPTS false)))
     (λ e. tt)

@@ -10,7 +10,7 @@ use Rattle.machine.specs.declared.machine.RunError.{RunError}
 use Rattle.machine.specs.declared.machine.RunError.TheVariants.{Write, Broken}
 use Rattle.machine.specs.Runs.{Fails, Leaves}
 use Rattle.machine.specs.Selected.{SelectedFails, SelectedLeaves}
-use Rattle.machine.specs.Whole.{Whole}
+use Rattle.machine.specs.MachineModel.{MachineModel}
 use Rattle.output.specs.Output.{GrowsByPrefix, IsCutAfter, IsCutShort, Writing}
 use Rattle.platform.specs.declared.event.Event.{Event}
 use Rattle.platform.specs.declared.stop.Stop.{Stop}
@@ -195,7 +195,7 @@ leaves_all n s steps old new last left = record {
   ];
 }
 
-pub fails_all : (n : ℕ) (old new : Whole) (out out' : Writing) (result : Result Stop RunError)
+pub fails_all : (n : ℕ) (old new : MachineModel) (out out' : Writing) (result : Result Stop RunError)
     → IfErr result (SelectedFails which.All n old new out out') → IfErr result (Fails n old new out out')
 fails_all n old new out out' (Ok stop) fails = fails
 fails_all n old new out out' (Err (Write steps)) fails =

@@ -6,7 +6,7 @@ use Rattle.std.specs.Io.KnownBytes.{Appends, Keeps}
 use Rattle.machine.proofs.Running.{none_made, none_shown}
 use Rattle.machine.specs.TaskRunLaw.{IsTaskRun, Makes, RanAlike, TaskRun, TaskRunsLaw}
 use Rattle.machine.specs.Tasks.{TaskEnds, TaskRuns}
-use Rattle.machine.specs.Whole.{Whole}
+use Rattle.machine.specs.MachineModel.{MachineModel}
 use Rattle.platform.specs.declared.event.Event.{Event}
 use Rattle.platform.specs.declared.stop.Stop.{Stop}
 use Rattle.platform.specs.Events.{lines}
@@ -17,7 +17,7 @@ use Rattle.task_laws.specs.declared.task.TaskEnd.{TaskEnd}
 use Rattle.task_laws.specs.declared.task.TaskEnd.TheVariants as task_end
 use Rattle.task_laws.specs.Sight.{Same}
 use Rattle.task_laws.specs.TaskLaw.{EndsAfter}
-use Rattle.task_laws.specs.Tasks.{AreInstructions, Ends, is_task}
+use Rattle.task_laws.specs.Tasks.{AreInstructions, EndsTask, is_task}
 use Rattle.task_laws.proofs.Endings.{two_runs_law}
 
 -- whether a call makes steps or has the answer of a stopped machine
@@ -60,7 +60,7 @@ appends_none (Some xs) (Some ys) kept = kept ∙ sym (append-nil xs)
 makes_none : (s : State) (r : TaskRun) → MadeNone r → Makes 0 (lines (events_of 0 s)) r
 makes_none s r none = record {
   instructions = λ k below. absurd (let w : ⊥ = omega arith in w);
-  state = ap (λ (w : Whole). w.state) none.state ∙ sym (none_made r.old.state);
+  state = ap (λ (w : MachineModel). w.state) none.state ∙ sym (none_made r.old.state);
   written =
       subst (λ (text : List ℕ). Appends r.before.written r.later.written text) (sym (none_shown s))
       (appends_none _ _ none.written);
@@ -73,8 +73,8 @@ alike_none one two same a b = record {
   here = makes_none one.old.state one a;
   there = makes_none one.old.state two b;
   same =
-      subst (λ (v : Whole). Same v.state two.new.state) (sym a.state)
-      (subst (λ (w : Whole). Same one.old.state w.state) (sym b.state) same);
+      subst (λ (v : MachineModel). Same v.state two.new.state) (sym a.state)
+      (subst (λ (w : MachineModel). Same one.old.state w.state) (sym b.state) same);
 }
 
 -- ---- a task runs, or the machine has stopped
@@ -99,7 +99,7 @@ ends_after : (n : ℕ) (r : TaskRun) (run : Run n r) → EndsAfter n r.old.state
 ends_after n r run = record {
   few = run.few;
   instructions = run.instructions;
-  ends = subst (λ (u : State). Ends n run.steps u r.end) run.state run.ends;
+  ends = subst (λ (u : State). EndsTask n run.steps u r.end) run.state run.ends;
 }
 
 alike_some : (n : ℕ) (one two : TaskRun) → Invariant one.old.state → Same one.old.state two.old.state

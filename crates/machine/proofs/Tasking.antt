@@ -15,7 +15,7 @@ use Rattle.reference.specs.Step.{step}
 use Rattle.platform.specs.Events.{lines}
 use Rattle.task_laws.specs.declared.task.TaskEnd.TheVariants as task_end
 use Rattle.task_laws.specs.Foresight.{is_instruction_next}
-use Rattle.task_laws.specs.Tasks.{AreInstructions, Ends}
+use Rattle.task_laws.specs.Tasks.{AreInstructions, EndsTask}
 use Rattle.trace.specs.Selection.{steps_text}
 
 -- one Instruction step more was made
@@ -26,14 +26,14 @@ instruction_on n s core made now next =
 
 -- why the run ends, by the stop and by whether steps are left
 ends_by : (n steps : ℕ) (core : State) (stop : Option Stop) (left : Bool) → core.stop ≡ stop → nat_lt steps n ≡ left
-    → steps ≤ n → (n ≤ steps) ⊎ (is_instruction_next core ≡ false) → Ends n steps core (end_of stop left)
+    → steps ≤ n → (n ≤ steps) ⊎ (is_instruction_next core ≡ false) → EndsTask n steps core (end_of stop left)
 ends_by n steps core (Some why) left e f few ends = e
 ends_by n steps core None true e f few (inl all) = absurd (grind (arith, nat_tests, f, all))
 ends_by n steps core None true e f few (inr other) = (grind (arith, nat_tests, f), e, other)
 ends_by n steps core None false e f few ends = (grind (arith, nat_tests, f, few), e)
 
 pub ends_so : (n steps : ℕ) (core : State) → steps ≤ n → (n ≤ steps) ⊎ (is_instruction_next core ≡ false)
-    → Ends n steps core (end_of core.stop (nat_lt steps n))
+    → EndsTask n steps core (end_of core.stop (nat_lt steps n))
 ends_so n steps core few ends = ends_by n steps core core.stop _ refl refl few ends
 
 -- a stopped machine makes no step

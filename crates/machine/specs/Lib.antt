@@ -8,7 +8,7 @@ pub mod Starts
 pub mod TaskRunLaw
 pub mod Tasks
 pub mod Values
-pub mod Whole
+pub mod MachineModel
 pub mod Fetched
 pub mod Kept
 pub mod Permits

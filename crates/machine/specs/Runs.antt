@@ -4,7 +4,7 @@ use Rattle.std.specs.Io.KnownBytes.{Keeps}
 use Rattle.machine.specs.declared.machine.RunError.{RunError}
 use Rattle.machine.specs.declared.machine.RunError.TheVariants.{Write, Broken}
 use Rattle.output.specs.Output.{IsCutAfter, Writing}
-use Rattle.machine.specs.Whole.{Whole}
+use Rattle.machine.specs.MachineModel.{MachineModel}
 use Rattle.reference.specs.Run.{after, ending_of}
 use Rattle.reference.specs.State.{State}
 use Rattle.reference.specs.Step.{step}
@@ -34,12 +34,13 @@ pub record Leaves (text : List Event → List ℕ) (end : List ℕ) (n : ℕ) (s
   pub cut : CutInStep text s steps old.written new.written ⊎ CutInEnd text end n s steps old.written new.written
 
 -- a run with such a text failed: the writer counted an error in it, or it was broken before and nothing was done
-abbrev pub FailsIn : (List Event → List ℕ) → List ℕ → ℕ → Whole → Whole → Writing → Writing → RunError → Type 0
+abbrev pub FailsIn : (List Event → List ℕ) → List ℕ → ℕ → MachineModel → MachineModel → Writing → Writing → RunError
+    → Type 0
 FailsIn text end n old new out out' (Write steps) =
     Leaves text end n old.state steps out out' new.state × (new.broken ≡ true) × (out'.errors ≡ out.errors + 1)
 FailsIn text end n old new out out' Broken =
     (new ≡ old) × Keeps out.written out'.written × (out'.errors ≡ out.errors)
 
 -- a run failed that writes the lines of its steps and the line of its stop
-abbrev pub Fails : ℕ → Whole → Whole → Writing → Writing → RunError → Type 0
+abbrev pub Fails : ℕ → MachineModel → MachineModel → Writing → Writing → RunError → Type 0
 Fails n old new out out' error = FailsIn lines (stop_line (ending_of n old.state)) n old new out out' error

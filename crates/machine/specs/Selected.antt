@@ -2,7 +2,7 @@
 use Rattle.std.specs.Prelude.{ℕ}
 use Rattle.machine.specs.declared.machine.RunError.{RunError}
 use Rattle.machine.specs.Runs.{FailsIn, Leaves}
-use Rattle.machine.specs.Whole.{Whole}
+use Rattle.machine.specs.MachineModel.{MachineModel}
 use Rattle.output.specs.Output.{Writing}
 use Rattle.reference.specs.Run.{events_of, ending_of}
 use Rattle.reference.specs.State.{State}
@@ -15,7 +15,7 @@ SelectedLeaves selection n s steps old new last =
     Leaves (selected_text selection) (selected_end selection (events_of n s) (ending_of n s)) n s steps old new last
 
 -- a run failed
-abbrev pub SelectedFails : TraceSelection → ℕ → Whole → Whole → Writing → Writing → RunError → Type 0
+abbrev pub SelectedFails : TraceSelection → ℕ → MachineModel → MachineModel → Writing → Writing → RunError → Type 0
 SelectedFails selection n old new out out' error =
     FailsIn (selected_text selection) (selected_end selection (events_of n old.state) (ending_of n old.state)) n old new
     out out' error

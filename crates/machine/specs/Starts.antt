@@ -1,6 +1,6 @@
 -- How a started machine, or one with a placed value, relates to the definition.
 use Rattle.std.specs.Prelude.{◌≡◌, false, Result, Ok, Err, IsOk}
-use Rattle.machine.specs.Whole.{Whole}
+use Rattle.machine.specs.MachineModel.{MachineModel}
 use Rattle.platform.specs.declared.error.PlaceError.{PlaceError}
 use Rattle.platform.specs.declared.error.StartError.{StartError}
 use Rattle.platform.specs.declared.error.StartError.TheVariants.{SegmentOutsideMemory, NoMemory}
@@ -14,7 +14,7 @@ StartsAt read (Err SegmentOutsideMemory) = read ≡ Err SegmentOutsideMemory
 StartsAt read (Err NoMemory) = IsOk read
 
 -- likewise for a machine, whose writer hasn't failed
-abbrev pub Starts : Result State StartError → Result Whole StartError → Type 0
+abbrev pub Starts : Result State StartError → Result MachineModel StartError → Type 0
 Starts read (Ok m) = (read ≡ Ok m.state) × (m.broken ≡ false)
 Starts read (Err SegmentOutsideMemory) = read ≡ Err SegmentOutsideMemory
 Starts read (Err NoMemory) = IsOk read
@@ -25,6 +25,6 @@ PlacesAt read old new (Ok done) = read ≡ Ok new
 PlacesAt read old new (Err error) = (read ≡ Err error) × (new ≡ old)
 
 -- likewise for a machine
-abbrev pub Places : Result State PlaceError → Whole → Whole → Result (Unit {0}) PlaceError → Type 0
+abbrev pub Places : Result State PlaceError → MachineModel → MachineModel → Result (Unit {0}) PlaceError → Type 0
 Places read old new (Ok done) = (read ≡ Ok new.state) × (new.broken ≡ old.broken)
 Places read old new (Err error) = (read ≡ Err error) × (new ≡ old)

@@ -2,7 +2,7 @@
 use Rattle.std.specs.Prelude.{◌≡◌, ℕ, List}
 use Rattle.std.specs.Io.KnownBytes.{Appends}
 use Rattle.machine.specs.Tasks.{TaskEnds}
-use Rattle.machine.specs.Whole.{Whole}
+use Rattle.machine.specs.MachineModel.{MachineModel}
 use Rattle.output.specs.Output.{Writing}
 use Rattle.platform.specs.Events.{lines}
 use Rattle.reference.specs.Invariant.{Invariant}
@@ -13,8 +13,8 @@ use Rattle.task_laws.specs.Tasks.{AreInstructions}
 
 -- a call of `run_task` that returned `Ok(end)`: the machine and the writer before it and after it
 pub record TaskRun : Type 0 where
-  pub old : Whole
-  pub new : Whole
+  pub old : MachineModel
+  pub new : MachineModel
   pub before : Writing
   pub later : Writing
   pub end : TaskEnd

@@ -4,7 +4,7 @@ use Rattle.std.specs.Io.KnownBytes.{Appends, Keeps}
 use Rattle.machine.specs.declared.machine.RunError.{RunError}
 use Rattle.machine.specs.declared.machine.RunError.TheVariants.{Write, Broken}
 use Rattle.machine.specs.Runs.{CutInStep}
-use Rattle.machine.specs.Whole.{Whole}
+use Rattle.machine.specs.MachineModel.{MachineModel}
 use Rattle.output.specs.Output.{Writing}
 use Rattle.platform.specs.declared.stop.Stop.{Stop}
 use Rattle.reference.specs.Run.{after, events_of}
@@ -12,7 +12,7 @@ use Rattle.reference.specs.State.{State}
 use Rattle.platform.specs.Events.{lines}
 use Rattle.task_laws.specs.declared.task.TaskEnd.{TaskEnd}
 use Rattle.task_laws.specs.declared.task.TaskEnd.TheVariants as task_end
-use Rattle.task_laws.specs.Tasks.{AreInstructions, Ends, is_task}
+use Rattle.task_laws.specs.Tasks.{AreInstructions, EndsTask, is_task}
 
 -- a run of at most n steps from a state ended so: `steps` steps were made, each of them an Instruction step, their
 -- lines went out, and the machine is in the state after them
@@ -22,11 +22,11 @@ pub record TaskRuns (n : ℕ) (s : State) (old new : Writing) (last : State) (en
   pub instructions : AreInstructions steps s
   pub state : last ≡ after steps s
   pub written : Appends old.written new.written (lines (events_of steps s))
-  pub ends : Ends n steps last end
+  pub ends : EndsTask n steps last end
 
 -- how a run of a machine ended: a machine that had stopped before made no step, since none of its steps is an
 -- Instruction step; no task ran, and nothing was done; or a task ran, and its run ended so
-abbrev pub TaskEnds : ℕ → Whole → Whole → Writing → Writing → TaskEnd → Type 0
+abbrev pub TaskEnds : ℕ → MachineModel → MachineModel → Writing → Writing → TaskEnd → Type 0
 TaskEnds n old new out out' task_end.NotTask =
     (old.state.stop ≡ None) × (is_task old.state ≡ false) × (new ≡ old) × Keeps out.written out'.written
 TaskEnds n old new out out' task_end.Done =
@@ -48,7 +48,7 @@ pub record TaskIsCut (n : ℕ) (s : State) (old new : Writing) (last : State) (s
   pub cut : CutInStep lines s steps old.written new.written
 
 -- a run that failed: a task ran, and its run was cut short; or the machine was broken before, and nothing was done
-abbrev pub TaskFails : ℕ → Whole → Whole → Writing → Writing → RunError → Type 0
+abbrev pub TaskFails : ℕ → MachineModel → MachineModel → Writing → Writing → RunError → Type 0
 TaskFails n old new out out' (Write steps) =
     (is_task old.state ≡ true) × TaskIsCut n old.state out out' new.state steps × (new.broken ≡ true)
 TaskFails n old new out out' Broken = (new ≡ old) × Keeps out.written out'.written

@@ -8,7 +8,7 @@ ghost use Rattle.reference.specs.Step.{sleeps_on};
 ghost use Rattle.task_laws.specs.Foresight.{is_instruction, kind_after, next_kind_of};
 
 use crate::stepping::{CLOCK_END, Processor};
-use access::{Decider, DueTicks, KeptCode, Levels};
+use access::{Decider, Exceptions, KeptCode, SysTickState};
 use platform::access::{Decision, Kind};
 use task_laws::StepKind;
 
@@ -19,7 +19,7 @@ pub fn is_instruction(kind: Option<StepKind>) -> bool
     matches!(kind, Some(StepKind::Instruction))
 }
 
-impl<D: Decider, C: KeptCode, L: Levels, U: DueTicks> Processor<D, C, L, U> {
+impl<D: Decider, C: KeptCode, L: Exceptions, U: SysTickState> Processor<D, C, L, U> {
     /// Returns what the next step will do, None where it would only stop.
     pub fn next_kind(&self) -> Option<StepKind>
         ensures { result ≡ next_kind_of self.now }
@@ -57,7 +57,7 @@ impl<D: Decider, C: KeptCode, L: Levels, U: DueTicks> Processor<D, C, L, U> {
         let system = &self.bus().system;
         let due = system.peek();
         let primask = system.masks().primask;
-        system.levels().candidate_after(&due, primask)
+        system.exceptions().candidate_after(&due, primask)
     }
 
     /// Returns whether the core sleeps on after the next tick, where there is no candidate: nothing
@@ -69,7 +69,7 @@ impl<D: Decider, C: KeptCode, L: Levels, U: DueTicks> Processor<D, C, L, U> {
     {
         let system = &self.bus().system;
         let due = system.peek();
-        self.is_asleep() && system.levels().candidate_after(&due, false).is_none()
+        self.is_asleep() && system.exceptions().candidate_after(&due, false).is_none()
     }
 
     /// Returns the rule that would decide an access of one kind to an address now, by code of that
@@ -79,7 +79,7 @@ impl<D: Decider, C: KeptCode, L: Levels, U: DueTicks> Processor<D, C, L, U> {
             (is_below_zero self.now.bus.system.nvic) }
     {
         let system = &self.bus().system;
-        let below_zero = system.levels().is_below_zero();
+        let below_zero = system.exceptions().is_below_zero();
         system
             .decider()
             .decide(address, kind, privileged, below_zero)

@@ -3,7 +3,7 @@
 ghost use Rattle.std.specs.Prelude.{◌≡◌, IfOk};
 ghost use Rattle.step_laws.specs.SizeLaw.{AreOfOneBoard};
 
-use access::{Decider, DueTicks, KeptCode, Levels, Space, SystemCopy};
+use access::{Decider, Exceptions, KeptCode, Space, SysTickState, SystemCopy};
 use exceptions::Core;
 use platform::stop::Stop;
 use regs::Regs;
@@ -13,7 +13,7 @@ use std::marker::Model;
 /// A copy of a machine's state, which `keep` overwrites and `take_back` goes back to. It takes as much memory as
 /// flash, RAM and the second RAM have, and some 10 KiB.
 #[derive(Drop)]
-pub struct Kept<L: Levels, U: DueTicks> {
+pub struct Kept<L: Exceptions, U: SysTickState> {
     regs: Regs,
     memory: Space,
     system: SystemCopy<L, U>,
@@ -22,7 +22,7 @@ pub struct Kept<L: Levels, U: DueTicks> {
     stop: Option<Stop>,
 }
 
-impl<L: Levels, U: DueTicks> Model for Kept<L, U> {
+impl<L: Exceptions, U: SysTickState> Model for Kept<L, U> {
     ghost use Rattle.reference.specs.State.{State};
 
     ghost Value = { State };
@@ -36,7 +36,7 @@ impl<L: Levels, U: DueTicks> Model for Kept<L, U> {
     } };
 }
 
-impl<L: Levels, U: DueTicks> Kept<L, U> {
+impl<L: Exceptions, U: SysTickState> Kept<L, U> {
     /// Returns a copy of a core's state, or fails where memory can't be allocated.
     pub fn of<D: Decider, C: KeptCode>(
         alloc: Global,

@@ -17,10 +17,11 @@ mod stepping;
 mod task;
 
 pub use access::{
-    Ahead, Counting, Decider, DueTicks, KeptCode, Levels, PlainLevels, Search, SysTick,
+    Decider, EagerSysTick, Exceptions, KeptCode, LazySysTick, PlainExceptions, Search, SysTick,
+    SysTickState,
 };
 pub use board::{Board, InterruptNumber, ScriptedEvent, Signal};
-pub use decode::Reread;
+pub use decode::DecodeEachTime;
 pub use decode_table::BoardDecodeTable;
 pub use foresight::is_instruction;
 pub use keeping::Kept;
@@ -31,7 +32,7 @@ pub use output::{Buffered, Cut, In, IoError, LineRoom, Out, Over, Paged};
 pub use platform::access::{Decision, Kind, Rule};
 pub use platform::board::{Layout, SMALL_BOARD};
 pub use platform::error::{PlaceError, StartError};
-pub use platform::event::{Event, MOST_EVENTS};
+pub use platform::event::{Event, MAX_EVENTS};
 pub use platform::mpu::RegionCount;
 pub use platform::stop::Stop;
 pub use platform::system::StatusRegister;

@@ -1,21 +1,21 @@
 //! Accesses to the words of a list of registers: those of LDM, STM, PUSH and POP.
 
 ghost use Rattle.std.specs.Prelude.{◌≡◌, ◌+◌, ◌<◌, ◌≤◌, ◌++◌, length};
-ghost use Rattle.exceptions.specs.LineBounds.{most_lines};
-ghost use Rattle.exceptions.specs.Serving.{Serves, served_by};
+ghost use Rattle.exceptions.specs.LineBounds.{max_lines};
+ghost use Rattle.exceptions.specs.Performing.{AllPerformed, performed_by};
 ghost use Rattle.exec.specs.Listed.{requests_by, requests_for};
 ghost use Rattle.instruction_set.specs.Registers.{is_privileged};
 ghost use Rattle.reference.specs.LoadStoreMultiple.{word_request};
 ghost use Rattle.reference.specs.State.{with_bus};
 ghost use Rattle.trace.specs.Emission.{with_emitted};
 
-use access::{Decider, DueTicks, KeptCode, Levels};
+use access::{Decider, Exceptions, KeptCode, SysTickState};
 use exceptions::{Core, Values};
 use exec::{ListedWords, next_listed};
 use instruction_set::registers::Register;
 use instruction_set::size::Size;
 use platform::access::{Access, Kind, Request};
-use platform::event::MOST_EVENTS;
+use platform::event::MAX_EVENTS;
 use reference::failure::Failure;
 use regs::Regs;
 use trace::sink::Sink;
@@ -23,21 +23,23 @@ use trace::sink::Sink;
 /// Accesses the words of a list, one by one, for the code that runs, up to the first access that isn't done. `values`
 /// becomes what they read. It does what `perform_all` of `Core` does with their requests.
 #[inline(always)]
-pub fn perform_words<D: Decider, C: KeptCode, L: Levels, U: DueTicks, S: Sink>(
+pub fn perform_words<D: Decider, C: KeptCode, L: Exceptions, U: SysTickState, S: Sink>(
     core: &mut Core<D, C, L, U>,
     events: &mut S,
     words: &ListedWords,
     values: &mut Values,
 ) -> Result<(), Failure>
-    requires { length (S.emitted events.old).events + most_lines (requests_for words.now core.old.registers)
-        ≤ MOST_EVENTS }
-    ensures state { core.new ≡ with_bus core.old (served_by core.old (requests_for words.now core.old.registers)).bus }
+    requires { length (S.emitted events.old).events + max_lines (requests_for words.now core.old.registers)
+        ≤ MAX_EVENTS }
+    ensures state { core.new
+        ≡ with_bus core.old (performed_by core.old (requests_for words.now core.old.registers)).bus }
     ensures events { S.emitted events.new
         ≡ with_emitted (S.emitted events.old) ((S.emitted events.old).events
-        ++ (served_by core.old (requests_for words.now core.old.registers)).events) }
-    ensures answer { Serves (served_by core.old (requests_for words.now core.old.registers)) values.new result }
+        ++ (performed_by core.old (requests_for words.now core.old.registers)).events) }
+    ensures answer { AllPerformed (performed_by core.old (requests_for words.now core.old.registers)) values.new
+        result }
     ensures room { length (S.emitted events.new).events
-        ≤ length (S.emitted events.old).events + most_lines (requests_for words.now core.old.registers) }
+        ≤ length (S.emitted events.old).events + max_lines (requests_for words.now core.old.registers) }
 {
     let tick = core.bus.system.ticks();
     let privileged = core.regs.is_privileged();
@@ -51,7 +53,7 @@ pub fn perform_words<D: Decider, C: KeptCode, L: Levels, U: DueTicks, S: Sink>(
 /// Accesses the words of a list, as `perform_words` does, at this tick, as code of this privilege, by accesses of this
 /// kind. Where it is known, the compiler leaves out what the other kind needs.
 #[inline(always)]
-fn perform_list<D: Decider, C: KeptCode, L: Levels, U: DueTicks, S: Sink>(
+fn perform_list<D: Decider, C: KeptCode, L: Exceptions, U: SysTickState, S: Sink>(
     core: &mut Core<D, C, L, U>,
     events: &mut S,
     tick: u64,
@@ -62,16 +64,17 @@ fn perform_list<D: Decider, C: KeptCode, L: Levels, U: DueTicks, S: Sink>(
 ) -> Result<(), Failure>
     requires tick { tick ≡ core.old.bus.system.time.ticks }
     requires privileged { privileged ≡ is_privileged core.old.registers }
-    requires room { length (S.emitted events.old).events + most_lines (requests_by kind words.now core.old.registers)
-        ≤ MOST_EVENTS }
+    requires room { length (S.emitted events.old).events + max_lines (requests_by kind words.now core.old.registers)
+        ≤ MAX_EVENTS }
     ensures state { core.new
-        ≡ with_bus core.old (served_by core.old (requests_by kind words.now core.old.registers)).bus }
+        ≡ with_bus core.old (performed_by core.old (requests_by kind words.now core.old.registers)).bus }
     ensures events { S.emitted events.new
         ≡ with_emitted (S.emitted events.old) ((S.emitted events.old).events
-        ++ (served_by core.old (requests_by kind words.now core.old.registers)).events) }
-    ensures answer { Serves (served_by core.old (requests_by kind words.now core.old.registers)) values.new result }
+        ++ (performed_by core.old (requests_by kind words.now core.old.registers)).events) }
+    ensures answer { AllPerformed (performed_by core.old (requests_by kind words.now core.old.registers)) values.new
+        result }
     ensures room { length (S.emitted events.new).events
-        ≤ length (S.emitted events.old).events + most_lines (requests_by kind words.now core.old.registers) }
+        ≤ length (S.emitted events.old).events + max_lines (requests_by kind words.now core.old.registers) }
 {
     let mut span = core.bus.kept_span(words.address, kind, privileged);
     let mut at = words.address;

@@ -30,9 +30,12 @@ use crate::run::{run_core, write_step};
 use crate::start::start_core;
 use crate::stepping::Processor;
 use crate::task::run_task_core;
-use access::{Ahead, Counting, Decider, DueTicks, KeptCode, Levels, PlainLevels, Search, SysTick};
+use access::{
+    Decider, EagerSysTick, Exceptions, KeptCode, LazySysTick, PlainExceptions, Search, SysTick,
+    SysTickState,
+};
 use board::Board;
-use decode::Reread;
+use decode::DecodeEachTime;
 use decode_table::BoardDecodeTable;
 use elf::Image;
 use mpu::MpuRegs;
@@ -44,7 +47,7 @@ use output::{
 };
 use platform::access::{Decision, Kind};
 use platform::error::{PlaceError, StartError};
-use platform::event::MOST_EVENTS;
+use platform::event::MAX_EVENTS;
 use platform::script::Signal;
 use platform::stop::Stop;
 use platform::system::StatusRegister;
@@ -67,29 +70,34 @@ pub enum RunError {
 /// A machine, whose accesses are decided by a `D`, whose decoded instructions are kept by a `C`, whose
 /// exceptions are kept by an `L`, and whose ticks are counted by a `U`.
 #[derive(Drop)]
-pub struct Machine<D: Decider, C: KeptCode, L: Levels, U: DueTicks> {
+pub struct Machine<D: Decider, C: KeptCode, L: Exceptions, U: SysTickState> {
     core: Processor<D, C, L, U>,
     broken: bool,
 }
 
 /// The machine that searches the regions at each access, fetches each instruction from memory, tests
 /// each exception, and counts each tick.
-pub type Slow = Machine<Search, Reread, PlainLevels, Counting>;
+pub type Slow = Machine<Search, DecodeEachTime, PlainExceptions, EagerSysTick>;
 
 /// The machine that finds the deciding region in a table and keeps decisions, keeps decoded instructions by
 /// their addresses, keeps the exceptions in sets of bits with three values that each step reads, and knows
 /// the next tick at which something is due. Its steps are those of `Slow`, by the same contracts.
-pub type Fast = Machine<KeptDecisions<Table>, BoardDecodeTable, KeptPriorities<BitLevels>, Ahead>;
+pub type Fast = Machine<
+    KeptDecisions<Table>,
+    BoardDecodeTable,
+    KeptPriorities<BitLevels>,
+    LazySysTick,
+>;
 
-impl<D: Decider, C: KeptCode, L: Levels, U: DueTicks> Model for Machine<D, C, L, U> {
-    ghost use Rattle.machine.specs.Whole.{Whole};
+impl<D: Decider, C: KeptCode, L: Exceptions, U: SysTickState> Model for Machine<D, C, L, U> {
+    ghost use Rattle.machine.specs.MachineModel.{MachineModel};
 
-    ghost Value = { Whole };
+    ghost Value = { MachineModel };
 
     ghost view = { λ m. record { state = m.core; broken = m.broken } };
 }
 
-impl<D: Decider, C: KeptCode, L: Levels, U: DueTicks> Machine<D, C, L, U> {
+impl<D: Decider, C: KeptCode, L: Exceptions, U: SysTickState> Machine<D, C, L, U> {
     ghost use Rattle.machine.specs.Seen.{seen_at};
     ghost use Rattle.machine.specs.Values.{execution_of, values_of};
 
@@ -109,11 +117,11 @@ impl<D: Decider, C: KeptCode, L: Levels, U: DueTicks> Machine<D, C, L, U> {
         ensures state { self.new ≡ record self.old { state = (step self.old.state).state } }
         ensures events { events.new.items ≡ (step self.old.state).events }
         ensures stop { result ≡ self.new.state.stop }
-        ensures few { length events.new.items ≤ MOST_EVENTS }
+        ensures few { length events.new.items ≤ MAX_EVENTS }
     {
         events.clear();
         self.core.step(events);
-        prove!(events.len() <= MOST_EVENTS);
+        prove!(events.len() <= MAX_EVENTS);
         self.core.stop()
     }
 
@@ -332,7 +340,6 @@ impl<D: Decider, C: KeptCode, L: Levels, U: DueTicks> Machine<D, C, L, U> {
         self.core.explain(address, privileged, kind)
     }
 
-    /// Returns what the core runs.
     #[inline]
     pub fn execution(&self) -> Execution
         ensures { result ≡ execution_of self.now.state }

@@ -9,7 +9,7 @@ ghost use Rattle.reference.specs.Places.{place, altered, is_there, is_plain, is_
 ghost use Rattle.reference.specs.Places.{special_taken, store_of, taken};
 
 use crate::stepping::Processor;
-use access::{Decider, DueTicks, KeptCode, Levels};
+use access::{Decider, Exceptions, KeptCode, SysTickState};
 use instruction_set::registers::Register;
 use instruction_set::size::Size;
 use instruction_set::system::SpecialRegister;
@@ -25,7 +25,7 @@ const SP: u8 = 13;
 /// The number of the link register.
 const LR: u8 = 14;
 
-impl<D: Decider, C: KeptCode, L: Levels, U: DueTicks> Processor<D, C, L, U> {
+impl<D: Decider, C: KeptCode, L: Exceptions, U: SysTickState> Processor<D, C, L, U> {
     /// Puts a value into a register or a word.
     #[tactic(auto, unfolding(reference::specs::Places::place))]
     pub fn place(&mut self, value: Place) -> Result<(), PlaceError>

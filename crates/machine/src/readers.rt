@@ -10,7 +10,7 @@ ghost use Rattle.platform.specs.Regions.{shown};
 ghost use Rattle.platform.specs.Status.{read_status};
 
 use crate::stepping::Processor;
-use access::{Decider, DueTicks, KeptCode, Levels, SysTick};
+use access::{Decider, Exceptions, KeptCode, SysTick, SysTickState};
 use instruction_set::size::Size;
 use mpu::MpuRegs;
 use platform::system::StatusRegister;
@@ -45,7 +45,7 @@ pub struct Execution {
     pub asleep: bool,
 }
 
-impl<D: Decider, C: KeptCode, L: Levels, U: DueTicks> Processor<D, C, L, U> {
+impl<D: Decider, C: KeptCode, L: Exceptions, U: SysTickState> Processor<D, C, L, U> {
     ghost use Rattle.machine.specs.Values.{execution_of, values_of};
 
     /// What the core runs.
@@ -157,14 +157,14 @@ impl<D: Decider, C: KeptCode, L: Levels, U: DueTicks> Processor<D, C, L, U> {
     pub fn is_pending(&self, number: u16) -> bool
         ensures { result ≡ is_in self.now.bus.system.nvic.pending number }
     {
-        self.bus().system.levels().is_pending(number)
+        self.bus().system.exceptions().is_pending(number)
     }
 
     /// Whether an exception is active.
     pub fn is_active(&self, number: u16) -> bool
         ensures { result ≡ is_in self.now.bus.system.nvic.active number }
     {
-        self.bus().system.levels().is_active(number)
+        self.bus().system.exceptions().is_active(number)
     }
 
     /// Whether the execution priority is below 0.
@@ -172,6 +172,6 @@ impl<D: Decider, C: KeptCode, L: Levels, U: DueTicks> Processor<D, C, L, U> {
     pub fn is_below_zero(&self) -> bool
         ensures { result ≡ is_below_zero self.now.bus.system.nvic }
     {
-        self.bus().system.levels().is_below_zero()
+        self.bus().system.exceptions().is_below_zero()
     }
 }

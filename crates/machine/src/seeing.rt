@@ -4,7 +4,7 @@ ghost use Rattle.std.specs.Prelude.{◌≡◌, ◌<◌};
 ghost use Rattle.machine.specs.Seen.{byte_of_word};
 
 use crate::stepping::Processor;
-use access::{Decider, DueTicks, KeptCode, Levels};
+use access::{Decider, Exceptions, KeptCode, SysTickState};
 
 /// Returns byte `number` of a word, from the lowest.
 fn byte_of_word(word: u32, number: u32) -> u8
@@ -14,7 +14,7 @@ fn byte_of_word(word: u32, number: u32) -> u8
     ((word >> (8 * number)) & 0xFF) as u8
 }
 
-impl<D: Decider, C: KeptCode, L: Levels, U: DueTicks> Processor<D, C, L, U> {
+impl<D: Decider, C: KeptCode, L: Exceptions, U: SysTickState> Processor<D, C, L, U> {
     ghost use Rattle.machine.specs.Seen.{seen_at};
 
     /// Returns the byte at an address: that of the word that a load by privileged code would return there now, and None

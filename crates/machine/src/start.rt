@@ -11,7 +11,7 @@ ghost use Rattle.platform.specs.Memory.{is_in_memory, vector};
 ghost use Rattle.elf.specs.Segment.{segment_of};
 
 use crate::stepping::Processor;
-use access::{Bus, CodeMemory, Decider, DueTicks, KeptCode, Levels, Script, System};
+use access::{Bus, CodeMemory, Decider, Exceptions, KeptCode, Script, SysTickState, System};
 use board::Board;
 use devices::Devices;
 use elf::{Image, Segment};
@@ -25,7 +25,7 @@ use std::alloc::Global;
 /// Makes the core of a board, with an image in its memory, before the first step. The segments are
 /// checked before any memory is allocated.
 #[tactic(auto, unfolding(reference::specs::Start::start))]
-pub fn start_core<D: Decider, C: KeptCode, L: Levels, U: DueTicks>(
+pub fn start_core<D: Decider, C: KeptCode, L: Exceptions, U: SysTickState>(
     alloc: Global,
     image: &Image<'_>,
     board: &Board,

@@ -7,12 +7,12 @@ ghost use Rattle.task_laws.specs.Tasks.{is_task};
 use crate::foresight::is_instruction;
 use crate::run::write_step;
 use crate::stepping::Processor;
-use access::{Decider, DueTicks, KeptCode, Levels};
+use access::{Decider, Exceptions, KeptCode, SysTickState};
 use output::{LineRoom, Out};
 use platform::stop::Stop;
 use task_laws::TaskEnd;
 
-impl<D: Decider, C: KeptCode, L: Levels, U: DueTicks> Processor<D, C, L, U> {
+impl<D: Decider, C: KeptCode, L: Exceptions, U: SysTickState> Processor<D, C, L, U> {
     /// Returns whether a task runs: in unprivileged Thread mode, outside the entry phase, while the
     /// regions of the MPU decide.
     pub fn is_task(&self) -> bool
@@ -27,7 +27,7 @@ impl<D: Decider, C: KeptCode, L: Levels, U: DueTicks> Processor<D, C, L, U> {
 
 /// Makes at most `limit` steps, as long as they are Instruction steps, and writes their lines. Where the
 /// writer fails, returns how many steps were made.
-pub fn run_task_core<D: Decider, C: KeptCode, L: Levels, U: DueTicks, W: Out>(
+pub fn run_task_core<D: Decider, C: KeptCode, L: Exceptions, U: SysTickState, W: Out>(
     core: &mut Processor<D, C, L, U>,
     limit: u64,
     out: &mut W,

@@ -22,7 +22,6 @@ impl<const ROOM: usize> Model for Clipped<ROOM> {
 }
 
 impl<const ROOM: usize> Clipped<ROOM> {
-    /// Returns an empty text.
     pub fn new() -> Self
         ensures { result ≡ empty }
     {
@@ -45,7 +44,6 @@ impl<const ROOM: usize> Clipped<ROOM> {
         }
     }
 
-    /// Returns the text.
     pub fn text(&self) -> &str
         ensures { result.now ≡ self.now.text }
     {

@@ -12,7 +12,7 @@ use std::io::Write;
 use std::{io, str};
 
 /// How many lines go out at most.
-const MOST_LINES: u8 = 16;
+const MAX_LINES: u8 = 16;
 
 /// A writer for messages, over another. Each line goes out in one call, with at most 512 bytes before its
 /// line feed: a longer one is cut at a character, and ends in `..`. Characters that a display hides are
@@ -26,14 +26,13 @@ pub struct Messages<W: Write + Drop> {
 }
 
 impl<W: Write + Drop> Messages<W> {
-    /// Returns a writer over another.
     pub fn new(out: W) -> Self
-        ensures { result ≡ record { out = out; line = empty; lines_left = MOST_LINES } }
+        ensures { result ≡ record { out = out; line = empty; lines_left = MAX_LINES } }
     {
         Messages {
             out,
             line: Clipped::new(),
-            lines_left: MOST_LINES,
+            lines_left: MAX_LINES,
         }
     }
 

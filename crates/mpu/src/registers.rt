@@ -10,12 +10,12 @@ ghost use Rattle.platform.specs.Regions.{based, write_attributes, is_accepted, o
 use crate::regions::{is_accepted, is_bit, matches};
 use crate::spans::{Span, cut};
 use instruction_set::unpredictable::UnpredictableCase;
-use platform::mpu::{MOST_REGIONS, MpuRegister, MpuStop, Region};
+use platform::mpu::{MAX_REGIONS, MpuRegister, MpuStop, Region};
 use platform::stop::Stop;
 use std::marker::Model;
 
 /// The most regions, as a length.
-const PLACES: usize = MOST_REGIONS as usize;
+const PLACES: usize = MAX_REGIONS as usize;
 
 /// The bits that RASR keeps: XN, AP, TEX, S, C, B, SRD, SIZE and ENABLE.
 const STORED: u32 = 0x173F_FF3F;
@@ -36,7 +36,9 @@ const VALID: u32 = 4;
 #[derive(Clone, Copy)]
 pub struct MpuRegs {
     control: u32,
+    /// The region that MPU_RNR selects.
     number: u8,
+    /// How many regions the board has.
     count: u8,
     regions: [Region; PLACES],
 }

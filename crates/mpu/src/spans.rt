@@ -8,14 +8,14 @@ use crate::regions::{agrees, is_region_enabled, size, switched_off};
 use platform::access::Rule;
 use platform::mpu::Region;
 
-/// Addresses from the first to the last, with both.
+/// Addresses from the first to the last, inclusive.
 #[derive(Clone, Copy)]
 pub struct Span {
     pub first: u32,
     pub last: u32,
 }
 
-/// Addresses from the first to the last, with both, and a rule that grants accesses of one kind to each of them.
+/// Addresses from the first to the last, inclusive, and a rule that grants accesses of one kind to each of them.
 #[derive(Clone, Copy)]
 pub struct GrantedSpan {
     pub first: u32,

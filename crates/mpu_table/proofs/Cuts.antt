@@ -7,7 +7,7 @@ use Rattle.std.proofs.lemmas.Bool.{leb-true, cases_lt}
 use Rattle.std.proofs.lemmas.List.Elements.{All-contains, Contains-get_or}
 use Rattle.std.proofs.lemmas.Nat.{div_below, le-div, pow-add}
 use Rattle.mpu_table.specs.Boundaries.{block_of, begin_of, pieces_of, HasBoundaries}
-use Rattle.mpu_table.specs.Intervals.{IsClear, Keeps, PartsRegion, PartsRegions}
+use Rattle.mpu_table.specs.Intervals.{IsClear, HasAllOf, PartsRegion, PartsRegions}
 use Rattle.mpu.proofs.Blocks.{outside_before, outside_beyond, matches_outside, matches_inside, alike_below}
 use Rattle.mpu.proofs.Blocks.{alike_disabled}
 use Rattle.mpu.specs.Spans.{grain}
@@ -131,13 +131,13 @@ owner_alike points m a b parts order small clear = alike_below m a b m.count (λ
 -- ---- more points
 
 -- no number of a list is between two where none of a longer list is
-pub parts_kept : (points more : List ℕ) (r : Region) → Keeps points more → PartsRegion points r → PartsRegion more r
+pub parts_kept : (points more : List ℕ) (r : Region) → HasAllOf points more → PartsRegion points r → PartsRegion more r
 parts_kept points more r keeps parts a b order small clear =
     parts a b order small (λ k d h. All-contains (λ x. (x ≤ a) ⊎ (b < x)) more _ clear
     (keeps _ (Contains-get_or points k d h)))
 
 pub parts_more : (points more : List ℕ) (m : Mpu) (n : ℕ) → ((k : ℕ) → k < n → PartsRegion points (region m k))
-    → Keeps points more
+    → HasAllOf points more
     → PartsRegion more (region m n) → (k : ℕ) → k < n + 1 → PartsRegion more (region m k)
 parts_more points more m n before keeps here =
     below_more (λ k. PartsRegion more (region m k)) n (λ k h. parts_kept points more (region m k) keeps (before k h))
@@ -146,7 +146,7 @@ parts_more points more m n before keeps here =
 abbrev HasFirst : List ℕ → ℕ → ℕ → ℕ → Type 0
 HasFirst points begin length n = (j : ℕ) → j < n → begin + j * length < 2 ^ 32 → Contains points (begin + j * length)
 
-pub has_more : (points more : List ℕ) (begin length n : ℕ) → HasFirst points begin length n → Keeps points more
+pub has_more : (points more : List ℕ) (begin length n : ℕ) → HasFirst points begin length n → HasAllOf points more
     → (begin + n * length < 2 ^ 32 → Contains more (begin + n * length)) → HasFirst more begin length (n + 1)
 has_more points more begin length n before keeps here =
     below_more (λ j. begin + j * length < 2 ^ 32 → Contains more (begin + j * length)) n

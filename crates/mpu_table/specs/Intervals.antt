@@ -27,8 +27,8 @@ abbrev pub PartsRegions : List ℕ → Mpu → Type 0
 PartsRegions points m = (k : ℕ) → k < m.count → PartsRegion points (region m k)
 
 -- one list has all numbers of another
-abbrev pub Keeps : List ℕ → List ℕ → Type 0
-Keeps points more = (x : ℕ) → Contains points x → Contains more x
+abbrev pub HasAllOf : List ℕ → List ℕ → Type 0
+HasAllOf points more = (x : ℕ) → Contains points x → Contains more x
 
 -- the region of an interval has a number below 16
 abbrev pub HasRegionBelow16 : Interval → Type 0

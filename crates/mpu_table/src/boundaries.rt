@@ -3,7 +3,7 @@
 ghost use Rattle.std.specs.Prelude.{◌≡◌, ◌+◌, ◌*◌, ◌^◌, ◌<◌, ◌≤◌, length};
 ghost use Rattle.std.specs.List.{Contains};
 ghost use Rattle.mpu_table.specs.Boundaries.{begin_of, pieces_of, HasBoundaries};
-ghost use Rattle.mpu_table.specs.Intervals.{Keeps, PartsRegion, PartsRegions};
+ghost use Rattle.mpu_table.specs.Intervals.{HasAllOf, PartsRegion, PartsRegions};
 ghost use Rattle.mpu.specs.Spans.{grain};
 
 use crate::interval::CAPACITY;
@@ -29,7 +29,7 @@ pub fn boundaries_of(registers: &MpuRegs) -> Points
 fn add_region(points: &mut Points, region: Region)
     requires { length points.old.items + 9 ≤ 192 }
     ensures parts { PartsRegion points.new.items region }
-    ensures kept { Keeps points.old.items points.new.items }
+    ensures kept { HasAllOf points.old.items points.new.items }
     ensures few { length points.new.items ≤ length points.old.items + 9 }
 {
     if is_region_enabled(region.attributes) {
@@ -41,7 +41,7 @@ fn add_region(points: &mut Points, region: Region)
 fn add(points: &mut Points, boundary: u64)
     requires { length points.old.items < 192 }
     ensures has { boundary < 2 ^ 32 → Contains points.new.items boundary }
-    ensures kept { Keeps points.old.items points.new.items }
+    ensures kept { HasAllOf points.old.items points.new.items }
     ensures few { length points.new.items ≤ length points.old.items + 1 }
 {
     if let Ok(address) = u32::try_from(boundary) {
@@ -87,7 +87,7 @@ impl Pieces {
         requires few { self.now.count ≤ 8 }
         requires room { length points.old.items + 9 ≤ 192 }
         ensures boundaries { HasBoundaries points.new.items self.now.begin self.now.length self.now.count }
-        ensures kept { Keeps points.old.items points.new.items }
+        ensures kept { HasAllOf points.old.items points.new.items }
         ensures few { length points.new.items ≤ length points.old.items + 9 }
     {
         'each: for piece in 0..self.count + 1 {

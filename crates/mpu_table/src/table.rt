@@ -13,7 +13,7 @@ use crate::sweep::{Intervals, intervals_of};
 use mpu::{
     Decider, Decision, Kind, MpuRegs, Rights, Span, before_regions, by_region, without_region,
 };
-use platform::mpu::MOST_REGIONS;
+use platform::mpu::MAX_REGIONS;
 use std::marker::Model;
 
 /// The intervals of the addresses, and the rights of the regions.
@@ -22,7 +22,7 @@ pub struct Table {
     /// The intervals of all addresses, in order.
     spans: Intervals,
     /// AP and XN of each region.
-    rights: [Rights; MOST_REGIONS as usize],
+    rights: [Rights; MAX_REGIONS as usize],
     /// MPU_CTRL.
     control: u32,
 }
@@ -76,11 +76,11 @@ impl Table {
 }
 
 /// Returns AP and XN of each region.
-fn rights_of(registers: &MpuRegs) -> [Rights; MOST_REGIONS as usize]
+fn rights_of(registers: &MpuRegs) -> [Rights; MAX_REGIONS as usize]
     ensures { HasRights result registers.now 16 }
 {
-    let mut rights = [Rights::of(0); MOST_REGIONS as usize];
-    for number in 0..MOST_REGIONS {
+    let mut rights = [Rights::of(0); MAX_REGIONS as usize];
+    for number in 0..MAX_REGIONS {
         rights[number as usize] = Rights::of(registers.at(number).attributes);
     }
     rights

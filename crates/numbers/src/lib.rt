@@ -4,9 +4,9 @@
 
 ghost use Rattle.std.specs.Prelude.{◌≡◌, ◌^◌};
 
-use elf::MOST_SEGMENTS;
+use elf::MAX_SEGMENTS;
 use platform::exception::{
-    BUS_FAULT, EXCEPTIONS, FIRST_INTERRUPT, HARD_FAULT, MEM_MANAGE, MOST_INTERRUPTS, NMI, PEND_SV,
+    BUS_FAULT, EXCEPTIONS, FIRST_INTERRUPT, HARD_FAULT, MAX_INTERRUPTS, MEM_MANAGE, NMI, PEND_SV,
     SV_CALL, SYS_TICK, USAGE_FAULT,
 };
 use platform::fault_status::{
@@ -14,7 +14,7 @@ use platform::fault_status::{
     MUNSTKERR, NOCP, PRECISERR, STKERR, UNALIGNED, UNDEFINSTR, UNSTKERR, VECTTBL,
 };
 use platform::map::RAM_BASE;
-use platform::mpu::MOST_REGIONS;
+use platform::mpu::MAX_REGIONS;
 
 /// The numbers of exceptions (ARM DDI 0403, B1.5.2, "Exception number definition").
 pub fn exceptions_are_numbered_as_in_the_manual()
@@ -58,9 +58,9 @@ pub fn other_fault_bits_are_those_of_the_manual()
 
 /// What a machine can have at most, and where RAM begins (profile; RAM: ARM DDI 0403, B3.1, "The system address map").
 pub fn a_machine_has_the_sizes_of_the_profile()
-    ensures lines { MOST_INTERRUPTS ≡ 240 }
+    ensures lines { MAX_INTERRUPTS ≡ 240 }
     ensures exceptions { EXCEPTIONS ≡ 256 }
-    ensures regions { MOST_REGIONS ≡ 16 }
+    ensures regions { MAX_REGIONS ≡ 16 }
     ensures ram { RAM_BASE ≡ 2 ^ 29 }
-    ensures headers { MOST_SEGMENTS ≡ 64 }
+    ensures headers { MAX_SEGMENTS ≡ 64 }
 {}

@@ -6,7 +6,7 @@ use Rattle.std.proofs.lemmas.List.{length-set, length-replicate}
 use Rattle.std.proofs.lemmas.Nat.{pow_pos}
 use Rattle.std.proofs.Math.Nat.{mul-div_left, zero-div, zero-mul}
 use Rattle.platform.specs.declared.exception.Masks.{Masks}
-use Rattle.platform.specs.declared.exception.TheConstants.{EXCEPTIONS, MOST_INTERRUPTS}
+use Rattle.platform.specs.declared.exception.TheConstants.{EXCEPTIONS, MAX_INTERRUPTS}
 use Rattle.platform.specs.SystemInvariant.{HasOnly}
 use Rattle.platform.specs.Priorities.{Nvic, is_in_words, is_exception, can_be_disabled, has_priority_byte, kept}
 use Rattle.platform.specs.Priorities.{with_member}
@@ -14,7 +14,7 @@ use Rattle.platform.specs.Priorities.{with_pending, with_active, with_enabled, w
 use Rattle.platform.specs.Priorities.{with_faultmask, with_basepri, with_due, reset_nvic}
 use Rattle.nvic.proofs.Changes.{IsKept, pended_kept}
 use Rattle.nvic.proofs.Due.{due_is_pended}
-use Rattle.nvic.specs.Laws.{AreKept, IsOfBoard}
+use Rattle.nvic.specs.Laws.{AreKept, FitsBoard}
 
 -- ---- lists
 
@@ -77,8 +77,8 @@ no_bytes bits = record {
 
 -- other sets, and the rest as it is
 with_sets : (n : Nvic) (pending enabled active : List Bool) → HasOnly (is_exception n.interrupts) pending
-    → HasOnly (can_be_disabled n.interrupts) enabled → HasOnly (is_exception n.interrupts) active → IsOfBoard n
-    → IsOfBoard (record n { pending = pending; enabled = enabled; active = active })
+    → HasOnly (can_be_disabled n.interrupts) enabled → HasOnly (is_exception n.interrupts) active → FitsBoard n
+    → FitsBoard (record n { pending = pending; enabled = enabled; active = active })
 with_sets n pending enabled active p e a h = record {
   sets = record { pending = p; enabled = e; active = a; interrupts = h.sets.interrupts };
   priorities = h.priorities;
@@ -88,8 +88,8 @@ with_sets n pending enabled active p e a h = record {
 
 -- other priority bytes, another PRIGROUP and other masks, and the rest as it is
 with_others : (n : Nvic) (bytes : List ℕ) (group : ℕ) (masks : Masks) → AreKept n.priority_bits bytes → group < 8
-    → kept n.priority_bits masks.basepri ≡ masks.basepri → IsOfBoard n
-    → IsOfBoard (record n { priorities = bytes; group = group; masks = masks })
+    → kept n.priority_bits masks.basepri ≡ masks.basepri → FitsBoard n
+    → FitsBoard (record n { priorities = bytes; group = group; masks = masks })
 with_others n bytes group masks are small basepri h = record {
   sets = record {
     pending = h.sets.pending;
@@ -102,42 +102,42 @@ with_others n bytes group masks are small basepri h = record {
   group = small;
 }
 
-pub pending_of_board : (n : Nvic) (x : ℕ) (on : Bool) → IsOfBoard n → IsOfBoard (with_pending n x on)
+pub pending_of_board : (n : Nvic) (x : ℕ) (on : Bool) → FitsBoard n → FitsBoard (with_pending n x on)
 pending_of_board n x on h =
     with_sets n _ n.enabled n.active
     (member_set n.interrupts n.pending x on h.sets.pending) h.sets.enabled h.sets.active h
 
-pub active_of_board : (n : Nvic) (x : ℕ) (on : Bool) → IsOfBoard n → IsOfBoard (with_active n x on)
+pub active_of_board : (n : Nvic) (x : ℕ) (on : Bool) → FitsBoard n → FitsBoard (with_active n x on)
 active_of_board n x on h =
     with_sets n n.pending n.enabled _ h.sets.pending h.sets.enabled
     (member_set n.interrupts n.active x on h.sets.active) h
 
-pub enabled_of_board : (n : Nvic) (x : ℕ) (on : Bool) → IsOfBoard n → IsOfBoard (with_enabled n x on)
+pub enabled_of_board : (n : Nvic) (x : ℕ) (on : Bool) → FitsBoard n → FitsBoard (with_enabled n x on)
 enabled_of_board n x on h =
-    cond_both (can_be_disabled n.interrupts x) _ _ IsOfBoard
+    cond_both (can_be_disabled n.interrupts x) _ _ FitsBoard
     (λ e. with_sets n n.pending _ n.active h.sets.pending
     (set_of (can_be_disabled n.interrupts) n.enabled x on e h.sets.enabled) h.sets.active h)
     (λ e. h)
 
-pub priority_of_board : (n : Nvic) (x b : ℕ) → IsOfBoard n → IsOfBoard (with_priority n x b)
+pub priority_of_board : (n : Nvic) (x b : ℕ) → FitsBoard n → FitsBoard (with_priority n x b)
 priority_of_board n x b h =
-    cond_both (has_priority_byte n.interrupts x) _ _ IsOfBoard
+    cond_both (has_priority_byte n.interrupts x) _ _ FitsBoard
     (λ e. with_others n _ n.group n.masks (set_kept n.priority_bits n.priorities x b h.priorities) h.group h.basepri h)
     (λ e. h)
 
-pub group_of_board : (n : Nvic) (g : ℕ) → IsOfBoard n → IsOfBoard (with_group n g)
+pub group_of_board : (n : Nvic) (g : ℕ) → FitsBoard n → FitsBoard (with_group n g)
 group_of_board n g h = with_others n n.priorities (g % 8) n.masks h.priorities (omega arith) h.basepri h
 
-pub primask_of_board : (n : Nvic) (on : Bool) → IsOfBoard n → IsOfBoard (with_primask n on)
+pub primask_of_board : (n : Nvic) (on : Bool) → FitsBoard n → FitsBoard (with_primask n on)
 primask_of_board n on h = with_others n n.priorities n.group _ h.priorities h.group h.basepri h
 
-pub faultmask_of_board : (n : Nvic) (on : Bool) → IsOfBoard n → IsOfBoard (with_faultmask n on)
+pub faultmask_of_board : (n : Nvic) (on : Bool) → FitsBoard n → FitsBoard (with_faultmask n on)
 faultmask_of_board n on h = with_others n n.priorities n.group _ h.priorities h.group h.basepri h
 
-pub basepri_of_board : (n : Nvic) (b : ℕ) → IsOfBoard n → IsOfBoard (with_basepri n b)
+pub basepri_of_board : (n : Nvic) (b : ℕ) → FitsBoard n → FitsBoard (with_basepri n b)
 basepri_of_board n b h = with_others n n.priorities n.group _ h.priorities h.group (kept_again n.priority_bits b) h
 
-pub of_board_kept : IsKept IsOfBoard
+pub of_board_kept : IsKept FitsBoard
 of_board_kept = record {
   pending = pending_of_board;
   active = active_of_board;
@@ -149,17 +149,17 @@ of_board_kept = record {
   basepri = λ n b small h. basepri_of_board n b h;
 }
 
-pub due_of_board : (n : Nvic) (due : List ℕ) → IsOfBoard n → IsOfBoard (with_due n due)
+pub due_of_board : (n : Nvic) (due : List ℕ) → FitsBoard n → FitsBoard (with_due n due)
 due_of_board n due h =
     rw (due_is_pended n due (is_in_words due) (λ x small. refl))
-    (pended_kept IsOfBoard (is_in_words due) (λ m x e g. pending_of_board m x true g) n h)
+    (pended_kept FitsBoard (is_in_words due) (λ m x e g. pending_of_board m x true g) n h)
 
-pub reset_of_board : (interrupts bits : ℕ) → IsOfBoard (reset_nvic interrupts bits)
+pub reset_of_board : (interrupts bits : ℕ) → FitsBoard (reset_nvic interrupts bits)
 reset_of_board interrupts bits = record {
   sets = record {
-    pending = empty_set (is_exception (min interrupts MOST_INTERRUPTS));
-    enabled = empty_set (can_be_disabled (min interrupts MOST_INTERRUPTS));
-    active = empty_set (is_exception (min interrupts MOST_INTERRUPTS));
+    pending = empty_set (is_exception (min interrupts MAX_INTERRUPTS));
+    enabled = empty_set (can_be_disabled (min interrupts MAX_INTERRUPTS));
+    active = empty_set (is_exception (min interrupts MAX_INTERRUPTS));
     interrupts = omega arith;
   };
   priorities = no_bytes bits;

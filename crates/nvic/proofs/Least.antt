@@ -8,10 +8,10 @@ use Rattle.platform.specs.Priorities.{Nvic, hard_fault_priority, is_in, of_byte,
 use Rattle.platform.specs.Priorities.{raised_by, highest_active, boosted, execution_priority}
 use Rattle.platform.specs.declared.exception.Masks.{Masks}
 use Rattle.nvic.proofs.Best.{or_last}
-use Rattle.nvic.specs.Laws.{Holds, IsLeast}
-use Rattle.nvic.specs.Laws.Holds.{nothing, handler, basepri, primask, faultmask}
+use Rattle.nvic.specs.Laws.{LimitsExecution, IsLeast}
+use Rattle.nvic.specs.Laws.LimitsExecution.{nothing, handler, basepri, primask, faultmask}
 
-lesser_holds : (n : Nvic) (p q : ℕ) → Holds n p → Holds n q → Holds n (min p q)
+lesser_holds : (n : Nvic) (p q : ℕ) → LimitsExecution n p → LimitsExecution n q → LimitsExecution n (min p q)
 lesser_holds n p q f g =
     let e : (min p q ≡ p) ⊎ (min p q ≡ q) = grind arith in
     elim e [ inl i ↦ rw i f | inr i ↦ rw i g ]
@@ -19,12 +19,12 @@ lesser_holds n p q f g =
 -- ---- the active exceptions
 
 -- the least group priority of those below k, and of k if that is active
-held_step : (n : Nvic) (k p : ℕ) → k < EXCEPTIONS → Holds n p → Holds n (raised_by n k p)
+held_step : (n : Nvic) (k p : ℕ) → k < EXCEPTIONS → LimitsExecution n p → LimitsExecution n (raised_by n k p)
 held_step n k p h f =
-    cond_both (is_in n.active k) _ _ (Holds n)
+    cond_both (is_in n.active k) _ _ (LimitsExecution n)
     (λ e. lesser_holds n (group_priority n k) p (handler k h e refl) f) (λ e. f)
 
-held : (n : Nvic) (k : ℕ) → k ≤ EXCEPTIONS → Holds n (highest_active n k)
+held : (n : Nvic) (k : ℕ) → k ≤ EXCEPTIONS → LimitsExecution n (highest_active n k)
 unfolding highest_active
 held n zero h = nothing refl
 held n (suc k) h = held_step n k (highest_active n k) (omega arith) (held n k (omega arith))
@@ -61,11 +61,11 @@ highest_alike n pending enabled masks (suc k) = ap (raised_by n k) (highest_alik
 
 -- ---- the masks
 
-boosted_holds : (n : Nvic) → Holds n (boosted n.group n.masks)
+boosted_holds : (n : Nvic) → LimitsExecution n (boosted n.group n.masks)
 boosted_holds n = split n.masks.faultmask n.masks.primask (n.masks.basepri == 0) refl refl refl
   where
     split : (f p none : Bool) → n.masks.faultmask ≡ f → n.masks.primask ≡ p → (n.masks.basepri == 0) ≡ none
-        → Holds n (if f then hard_fault_priority else if p then of_byte 0 else if none then lowest
+        → LimitsExecution n (if f then hard_fault_priority else if p then of_byte 0 else if none then lowest
         else of_byte (grouped n.group n.masks.basepri))
     split true p none e f g = faultmask e refl
     split false true none e f g = primask f refl
@@ -87,7 +87,8 @@ under_basepri f p none g e = grind arith
 
 -- ---- both
 
-below_each : (n : Nvic) (q : ℕ) → Holds n q → (highest_active n EXCEPTIONS ≤ q) ⊎ (boosted n.group n.masks ≤ q)
+below_each : (n : Nvic) (q : ℕ) → LimitsExecution n q → (highest_active n EXCEPTIONS ≤ q)
+    ⊎ (boosted n.group n.masks ≤ q)
 below_each n q (nothing e) = let h = at_most_lowest n EXCEPTIONS in inl (omega (arith, h, e))
 below_each n q (handler x h a e) = let i = at_most_active n EXCEPTIONS x h a in inl (omega (arith, i, e))
 below_each n q (basepri some e) =

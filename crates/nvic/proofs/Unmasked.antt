@@ -12,7 +12,7 @@ use Rattle.platform.specs.Priorities.{candidate_unmasked}
 use Rattle.nvic.proofs.BelowZero.{below_zero}
 use Rattle.nvic.proofs.Best.{candidate_is, only_candidate, best_alike}
 use Rattle.nvic.proofs.Least.{at_most_active, highest_alike}
-use Rattle.nvic.specs.Laws.{IsBest, IsCandidate, IsReady}
+use Rattle.nvic.specs.Laws.{IsBest, IsCandidate, IsPendingAndEnabled}
 
 abbrev unmask : Nvic → Nvic
 unmask n = with_primask n false
@@ -72,7 +72,7 @@ unfolding execution_priority
 priority_least n e = let h = at_most_active n EXCEPTIONS NMI (omega arith) e in omega (arith, h)
 
 -- a ready exception other than NMI has a group priority of -1 or more
-ready_above : (n : Nvic) (y : ℕ) → is_in n.pending NMI ≡ false → IsReady n y → 1 ≤ group_priority n y
+ready_above : (n : Nvic) (y : ℕ) → is_in n.pending NMI ≡ false → IsPendingAndEnabled n y → 1 ≤ group_priority n y
 ready_above n y f r = fixed_above y (grouped n.group (slice_index n.priorities y)) (λ i. none i r.ready)
   where
     none : y ≡ NMI → is_ready n y ≡ true → ⊥

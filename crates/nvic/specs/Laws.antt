@@ -9,7 +9,7 @@ use Rattle.platform.specs.Priorities.{group_priority, execution_priority, hard_f
 use Rattle.platform.specs.Priorities.{lowest}
 
 -- exception x is pending and enabled
-pub record IsReady (n : Nvic) (x : ℕ) : Type 0 where
+pub record IsPendingAndEnabled (n : Nvic) (x : ℕ) : Type 0 where
   pub in_range : x < EXCEPTIONS
   pub ready : is_ready n x ≡ true
 
@@ -19,27 +19,27 @@ ComesFirst n x y = (priority_of n x < priority_of n y) ⊎ ((priority_of n x ≡
 
 -- the best exception comes before each other one that is pending and enabled
 abbrev pub IsBest : Nvic → Option ℕ → Type 0
-IsBest n (Some x) = IsReady n x × ((y : ℕ) → IsReady n y → ComesFirst n x y)
-IsBest n None = (y : ℕ) → IsReady n y → ⊥
+IsBest n (Some x) = IsPendingAndEnabled n x × ((y : ℕ) → IsPendingAndEnabled n y → ComesFirst n x y)
+IsBest n None = (y : ℕ) → IsPendingAndEnabled n y → ⊥
 
 -- the candidate is the best, and preempts; where there is none, no exception at all that is pending and enabled does
 abbrev pub IsCandidate : Nvic → Option ℕ → Type 0
 IsCandidate n (Some x) = IsBest n (Some x) × (group_priority n x < execution_priority n)
-IsCandidate n None = (y : ℕ) → IsReady n y → execution_priority n ≤ group_priority n y
+IsCandidate n None = (y : ℕ) → IsPendingAndEnabled n y → execution_priority n ≤ group_priority n y
 
 -- the priorities of which the execution priority is the highest: the lowest, always; the group priority of each active
 -- exception; BASEPRI's group where BASEPRI isn't 0; 0 under PRIMASK; -1 under FAULTMASK
-pub data Holds (n : Nvic) (p : ℕ) : Type 0 where
-  nothing : p ≡ lowest → Holds n p
-  handler : (x : ℕ) → x < EXCEPTIONS → is_in n.active x ≡ true → p ≡ group_priority n x → Holds n p
-  basepri : (n.masks.basepri ≡ 0 → ⊥) → p ≡ of_byte (grouped n.group n.masks.basepri) → Holds n p
-  primask : n.masks.primask ≡ true → p ≡ of_byte 0 → Holds n p
-  faultmask : n.masks.faultmask ≡ true → p ≡ hard_fault_priority → Holds n p
+pub data LimitsExecution (n : Nvic) (p : ℕ) : Type 0 where
+  nothing : p ≡ lowest → LimitsExecution n p
+  handler : (x : ℕ) → x < EXCEPTIONS → is_in n.active x ≡ true → p ≡ group_priority n x → LimitsExecution n p
+  basepri : (n.masks.basepri ≡ 0 → ⊥) → p ≡ of_byte (grouped n.group n.masks.basepri) → LimitsExecution n p
+  primask : n.masks.primask ≡ true → p ≡ of_byte 0 → LimitsExecution n p
+  faultmask : n.masks.faultmask ≡ true → p ≡ hard_fault_priority → LimitsExecution n p
 
 -- the least of them
 pub record IsLeast (n : Nvic) (p : ℕ) : Type 0 where
-  pub holds : Holds n p
-  pub least : (q : ℕ) → Holds n q → p ≤ q
+  pub holds : LimitsExecution n p
+  pub least : (q : ℕ) → LimitsExecution n q → p ≤ q
 
 -- there's a byte for each number, and each has only bits that the board keeps
 pub record AreKept (bits : ℕ) (bytes : List ℕ) : Type 0 where
@@ -48,7 +48,7 @@ pub record AreKept (bits : ℕ) (bytes : List ℕ) : Type 0 where
 
 -- what is always so: the sets hold exceptions of the board only, and the priority bytes and BASEPRI have only bits that
 -- the board keeps
-pub record IsOfBoard (n : Nvic) : Type 0 where
+pub record FitsBoard (n : Nvic) : Type 0 where
   pub sets : HasExceptionsOfBoard n
   pub priorities : AreKept n.priority_bits n.priorities
   pub basepri : kept n.priority_bits n.masks.basepri ≡ n.masks.basepri

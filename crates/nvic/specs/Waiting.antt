@@ -1,4 +1,4 @@
--- What `PlainLevels` keeps beside its sets.
+-- What `PlainExceptions` keeps beside its sets.
 use Rattle.std.specs.Prelude.{ℕ, Bool, List}
 use Rattle.std.specs.List.{count_by}
 

@@ -2,16 +2,16 @@
 //! priority the machine runs (ARM DDI 0403, "Exception priorities and preemption").
 #![tactic(auto)]
 
+mod exceptions;
 pub mod laws;
-mod levels;
 mod numbers;
 mod plain;
 mod priorities;
 mod settings;
 
-pub use levels::Levels;
+pub use exceptions::Exceptions;
 pub use numbers::{can_be_disabled, has_priority_byte, is_always_enabled, is_empty, is_exception};
-pub use plain::PlainLevels;
+pub use plain::PlainExceptions;
 pub use platform::exception::{Escalation, Masks, Priority};
 pub use priorities::{grouped, kept};
 pub use settings::Settings;

@@ -3,7 +3,7 @@
 ghost use Rattle.std.specs.Prelude.{◌≡◌};
 ghost use Rattle.platform.specs.Priorities as spec;
 
-use crate::levels::Levels;
+use crate::exceptions::Exceptions;
 use crate::numbers::is_always_enabled;
 use crate::priorities::{fixed_or, kept};
 use crate::settings::Settings;
@@ -12,7 +12,7 @@ use std::marker::Model;
 
 /// The exceptions as plain sets. A contract sees them as the reference's `Nvic`.
 #[derive(Drop)]
-pub struct PlainLevels {
+pub struct PlainExceptions {
     pending: [bool; EXCEPTIONS as usize],
     enabled: [bool; EXCEPTIONS as usize],
     active: [bool; EXCEPTIONS as usize],
@@ -21,11 +21,11 @@ pub struct PlainLevels {
     waiting: u16,
 }
 
-impl Model for PlainLevels {
+impl Model for PlainExceptions {
     ghost use Rattle.std.specs.Prelude.{◌≡◌, ◌<◌, ◌≤◌};
     ghost use Rattle.nvic.specs.Waiting.{count_in};
     ghost use Rattle.platform.specs.Priorities.{Nvic};
-    ghost use Rattle.platform.specs.declared.exception.TheConstants.{MOST_INTERRUPTS};
+    ghost use Rattle.platform.specs.declared.exception.TheConstants.{MAX_INTERRUPTS};
 
     ghost Value = { Nvic };
 
@@ -40,16 +40,16 @@ impl Model for PlainLevels {
       priority_bits = l.settings.priority_bits;
     } };
 
-    ghost invariant = { λ l. (l.settings.group < 8) × (l.settings.interrupts ≤ MOST_INTERRUPTS)
+    ghost invariant = { λ l. (l.settings.group < 8) × (l.settings.interrupts ≤ MAX_INTERRUPTS)
         × (l.waiting ≡ count_in l.pending) };
 }
 
-impl Levels for PlainLevels {
+impl Exceptions for PlainExceptions {
     ghost content = { λ l. l };
 
     #[tactic(auto, using(crate::proofs::Waiting::none_at_first))]
     fn fresh(interrupts: u8, priority_bits: u8) -> Self {
-        PlainLevels {
+        PlainExceptions {
             pending: [false; EXCEPTIONS as usize],
             enabled: [false; EXCEPTIONS as usize],
             active: [false; EXCEPTIONS as usize],
@@ -119,7 +119,7 @@ impl Levels for PlainLevels {
     }
 
     fn copied(&self) -> Self {
-        PlainLevels {
+        PlainExceptions {
             pending: self.pending,
             enabled: self.enabled,
             active: self.active,
@@ -129,7 +129,7 @@ impl Levels for PlainLevels {
     }
 }
 
-impl PlainLevels {
+impl PlainExceptions {
     /// Returns the priority of an exception.
     #[inline]
     fn priority_of(&self, number: u16) -> Priority

@@ -4,7 +4,7 @@ ghost use Rattle.std.specs.Prelude.{◌≡◌, slice_index};
 ghost use Rattle.nvic.specs.Settings.{settings_of};
 ghost use Rattle.platform.specs.Priorities.{reset_nvic};
 
-use platform::exception::{EXCEPTIONS, MOST_INTERRUPTS, Masks};
+use platform::exception::{EXCEPTIONS, MAX_INTERRUPTS, Masks};
 
 /// The state of the exceptions except for the sets of pending, enabled and active ones.
 #[derive(Clone, Copy)]
@@ -34,7 +34,7 @@ impl Settings {
                 faultmask: false,
                 basepri: 0,
             },
-            interrupts: interrupts.min(MOST_INTERRUPTS),
+            interrupts: interrupts.min(MAX_INTERRUPTS),
             priority_bits,
         }
     }

@@ -14,7 +14,7 @@ use Rattle.nvic_levels.proofs.KeptLevels.{view_of}
 use Rattle.nvic_levels.proofs.Lists.{flag}
 use Rattle.nvic_levels.specs.Sets.{flags, level, is_waiting, is_levelled, AreEmpty, IsKept, IsFirstOf}
 use Rattle.nvic.proofs.Best.{best_exactly}
-use Rattle.nvic.specs.Laws.{IsReady, ComesFirst}
+use Rattle.nvic.specs.Laws.{IsPendingAndEnabled, ComesFirst}
 use Rattle.platform.specs.declared.exception.TheConstants.{NMI, HARD_FAULT, EXCEPTIONS}
 use Rattle.platform.specs.declared.exception.Masks.{Masks}
 use Rattle.platform.specs.Priorities.{Nvic, best, is_always_enabled, is_in_words, is_enabled, is_fixed, is_in}
@@ -37,7 +37,7 @@ of_view levels held enabled active priorities group masks interrupts bits kept =
 
 -- a ready exception that isn't fixed is in its level
 in_its_level : (n : Nvic) (levels : List (List ℕ)) (held enabled : List ℕ) (y : ℕ) → IsOf n levels held enabled
-    → IsReady n y → is_fixed y ≡ false → is_in_words (level levels (slice_index n.priorities y)) y ≡ true
+    → IsPendingAndEnabled n y → is_fixed y ≡ false → is_in_words (level levels (slice_index n.priorities y)) y ≡ true
 in_its_level n levels held enabled y of ready free = lead (is_in_words held y) refl waiting
   where
     waiting : is_waiting levels held n.priorities y ≡ true
@@ -64,7 +64,8 @@ in_its_level n levels held enabled y of ready free = lead (is_in_words held y) r
     lead false e w = rw e at w
 
 -- one that is fixed is ready only where it's pending
-unfixed : (n : Nvic) (y : ℕ) → is_in n.pending NMI ≡ false → is_in n.pending HARD_FAULT ≡ false → IsReady n y
+unfixed : (n : Nvic) (y : ℕ) → is_in n.pending NMI ≡ false → is_in n.pending HARD_FAULT ≡ false
+    → IsPendingAndEnabled n y
     → is_fixed y ≡ false
 unfixed n y nmi fault ready = first (y == NMI) refl
   where
@@ -88,7 +89,8 @@ unfixed n y nmi fault ready = first (y == NMI) refl
 -- an exception in a level is ready, isn't fixed and has that priority byte
 level_ready : (n : Nvic) (levels : List (List ℕ)) (held enabled : List ℕ) (p x : ℕ) → IsOf n levels held enabled
     → x < EXCEPTIONS
-    → is_in_words (level levels p) x ≡ true → IsReady n x × (is_fixed x ≡ false) × (slice_index n.priorities x ≡ p)
+    → is_in_words (level levels p) x ≡ true → IsPendingAndEnabled n x × (is_fixed x ≡ false)
+    × (slice_index n.priorities x ≡ p)
 level_ready n levels held enabled p x of small there = (record { in_range = small; ready = ready }, free, byte)
   where
     byte : slice_index n.priorities x ≡ p
@@ -130,10 +132,10 @@ pub best_found : (n : Nvic) (levels : List (List ℕ)) (held enabled : List ℕ)
 best_found n levels held enabled p x of nmi fault before first =
     (best_exactly n (Some x)).0 (here.0, λ y ready. order y ready)
   where
-    here : IsReady n x × (is_fixed x ≡ false) × (slice_index n.priorities x ≡ p)
+    here : IsPendingAndEnabled n x × (is_fixed x ≡ false) × (slice_index n.priorities x ≡ p)
     here = level_ready n levels held enabled p x of first.0 first.1
 
-    order : (y : ℕ) → IsReady n y → ComesFirst n x y
+    order : (y : ℕ) → IsPendingAndEnabled n y → ComesFirst n x y
     order y ready = split (cases_lt (slice_index n.priorities y) p) (cases_lt p (slice_index n.priorities y))
       where
         free : is_fixed y ≡ false
@@ -219,7 +221,7 @@ pub best_hard_fault : (n : Nvic) → is_in n.pending NMI ≡ false → is_in n.p
 best_hard_fault n f e = (best_exactly n (Some HARD_FAULT)).0
     (record { in_range = omega arith; ready = rw e refl }, λ y r. order y (missing y r))
   where
-    missing : (y : ℕ) → IsReady n y → y ≡ NMI → ⊥
+    missing : (y : ℕ) → IsPendingAndEnabled n y → y ≡ NMI → ⊥
     missing y r i = let t : is_in n.pending NMI ≡ true =
         subst (λ z. is_in n.pending z ≡ true) i (and_parts _ _ r.ready).0 in cc
 

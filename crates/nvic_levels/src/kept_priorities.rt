@@ -5,14 +5,14 @@ ghost use Rattle.platform.specs.declared.exception.TheConstants.{EXCEPTIONS};
 ghost use Rattle.platform.specs.Priorities as spec;
 ghost use Rattle.platform.specs.Priorities.{highest_active};
 
-use nvic::{Levels, Settings};
+use nvic::{Exceptions, Settings};
 use platform::exception::{Masks, Priority};
 
 /// The exceptions of an `L`, and three cached values: the best of them, the highest group priority (the
 /// least number) of the active ones, and whether the execution priority is below 0. They always equal
 /// what the `L` would return: each change computes anew what it may change.
 #[derive(Drop)]
-pub struct KeptPriorities<L: Levels> {
+pub struct KeptPriorities<L: Exceptions> {
     levels: L,
     best: Option<u16>,
     active_priority: Priority,
@@ -22,8 +22,7 @@ pub struct KeptPriorities<L: Levels> {
     ghost below_known: { below_zero ≡ spec.is_below_zero (L.content levels) },
 }
 
-impl<L: Levels> KeptPriorities<L> {
-    /// Returns the exceptions.
+impl<L: Exceptions> KeptPriorities<L> {
     pub fn levels(&self) -> &L
         ensures { result.now ≡ self.now.levels }
     {
@@ -31,7 +30,7 @@ impl<L: Levels> KeptPriorities<L> {
     }
 }
 
-impl<L: Levels> Levels for KeptPriorities<L> {
+impl<L: Exceptions> Exceptions for KeptPriorities<L> {
     ghost content = { λ k. L.content k.levels };
 
     fn fresh(interrupts: u8, priority_bits: u8) -> Self {

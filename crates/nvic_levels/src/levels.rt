@@ -7,7 +7,7 @@ ghost use Rattle.platform.specs.Priorities as spec;
 ghost use Rattle.platform.specs.Priorities.{is_in_words, is_fixed, is_in, is_ready};
 
 use crate::sets::{Set, Sets, all_empty, empty, first_of, has, has_other, put, put_at};
-use nvic::{Levels, Settings, is_always_enabled, kept};
+use nvic::{Exceptions, Settings, is_always_enabled, kept};
 use platform::exception::{EXCEPTIONS, HARD_FAULT, Masks, NMI};
 use std::marker::Model;
 
@@ -28,7 +28,7 @@ impl Model for BitLevels {
     ghost use Rattle.std.specs.Prelude.{◌<◌, ◌≤◌};
     ghost use Rattle.nvic_levels.specs.Sets.{flags, is_waiting, AreKeptBytes, IsKept};
     ghost use Rattle.platform.specs.Priorities.{Nvic, is_in_words};
-    ghost use Rattle.platform.specs.declared.exception.TheConstants.{MOST_INTERRUPTS};
+    ghost use Rattle.platform.specs.declared.exception.TheConstants.{MAX_INTERRUPTS};
 
     ghost Value = { Nvic };
 
@@ -43,7 +43,7 @@ impl Model for BitLevels {
       priority_bits = l.settings.priority_bits;
     } };
 
-    ghost invariant = { λ l. (l.settings.group < 8) × (l.settings.interrupts ≤ MOST_INTERRUPTS)
+    ghost invariant = { λ l. (l.settings.group < 8) × (l.settings.interrupts ≤ MAX_INTERRUPTS)
         × IsKept l.levels l.held l.enabled l.settings.priorities
         × AreKeptBytes l.settings.priority_bits l.settings.priorities };
 }
@@ -126,7 +126,7 @@ fn is_levelled(enabled: &Set, number: u8) -> bool
     is_enabled && !matches!(u16::from(number), NMI | HARD_FAULT)
 }
 
-impl Levels for BitLevels {
+impl Exceptions for BitLevels {
     ghost content = { λ l. l };
 
     fn fresh(interrupts: u8, priority_bits: u8) -> Self {

@@ -8,4 +8,4 @@ mod sets;
 
 pub use kept_priorities::KeptPriorities;
 pub use levels::BitLevels;
-pub use nvic::Levels;
+pub use nvic::Exceptions;

@@ -6,7 +6,7 @@ use Rattle.std.proofs.lemmas.List.{length-take-le}
 use Rattle.std.specs.Io.KnownBytes.{Consumes, IsAtEnd, Keeps}
 use Rattle.output.specs.declared.cut.AtCut.{AtCut}
 use Rattle.output.specs.declared.cut.AtCut.TheVariants.{Fails, TakesNone}
-use Rattle.output.specs.Cuts.{Passes, cut_off, left_of}
+use Rattle.output.specs.Cuts.{CountsCall, cut_off, left_of}
 use Rattle.output.specs.Input.{Reading, Received}
 
 taken_from : (xs ys front : List ℕ) (old new : ℕ) → xs ≡ front ++ ys → old ≡ new + length front
@@ -38,7 +38,7 @@ still_ends TakesNone (Some xs) new end = rw end (take-nil new)
 -- a call that was passed on
 pub passed_on : {E : Type 0} (cut cut' : AtCut) (inner inner' : Reading) (room : List ℕ)
     (old new failed failed' : ℕ) (result : Result ℕ E) → Received inner inner' room result
-    → Passes old new result → cut' ≡ cut → failed' ≡ failed
+    → CountsCall old new result → cut' ≡ cut → failed' ≡ failed
     → Received (cut_off cut old failed inner) (cut_off cut' new failed' inner') room result
 passed_on cut cut' inner inner' room old new failed failed' (Ok given) received passes same count =
     rw (same, count)

@@ -37,16 +37,16 @@ passed_on start mid new page bytes (Err error) kept none same took =
     (Keeps-trans start.written _ _ kept (append_known-kept mid.written new.written page took.0), rw same at took.1)
 
 -- what waits below is handed on, while nothing waits on the page
-pub handed_on : {E : Type 0} (start mid new : Writing) (page : List ℕ) (result : Result (Unit {0}) E)
+pub flushed_all : {E : Type 0} (start mid new : Writing) (page : List ℕ) (result : Result (Unit {0}) E)
     → Keeps start.written (append_known mid.written page) → page ≡ [] → mid.errors ≡ start.errors
     → HandsOn mid new result
     → HandsOn start (with_page page new) result
-handed_on start mid new page (Ok done) kept none same took = (
+flushed_all start mid new page (Ok done) kept none same took = (
   Keeps-trans start.written _ _ kept (append_known-kept mid.written new.written page took.0),
   took.1 ∙ same,
   rw none (append-nil new.waits ∙ took.2),
 )
-handed_on start mid new page (Err error) kept none same took =
+flushed_all start mid new page (Err error) kept none same took =
     (Keeps-trans start.written _ _ kept (append_known-kept mid.written new.written page took.0), rw same at took.1)
 
 some_bytes : (old new : Option (List ℕ)) (text : List ℕ) → 0 < length text → Keeps old new → IsCutShort old new text

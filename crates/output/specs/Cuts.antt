@@ -6,9 +6,9 @@ use Rattle.output.specs.Input.{Reading}
 use Rattle.output.specs.Output.{Writing}
 
 -- one call: the number of bytes to pass on falls by those of the call
-abbrev pub Passes : {E : Type 0} → ℕ → ℕ → Result ℕ E → Type 0
-Passes old new (Ok passed) = old ≡ new + passed
-Passes old new (Err error) = new ≡ old
+abbrev pub CountsCall : {E : Type 0} → ℕ → ℕ → Result ℕ E → Type 0
+CountsCall old new (Ok passed) = old ≡ new + passed
+CountsCall old new (Err error) = new ≡ old
 
 -- a call after the last byte: it fails, or takes none
 abbrev pub EndsAtCut : {E : Type 0} → AtCut → Result ℕ E → Type 0

@@ -1,7 +1,7 @@
 //! A writer or a reader that is cut after a number of bytes, for tests of what a failure leaves.
 
 ghost use Rattle.std.specs.Prelude.{◌≡◌, ◌-◌, ◌^◌, ◌<◌, length};
-ghost use Rattle.output.specs.Cuts.{EndsAtCut, Passes, cut_off, with_errors, with_misses};
+ghost use Rattle.output.specs.Cuts.{EndsAtCut, CountsCall, cut_off, with_errors, with_misses};
 ghost use Rattle.output.specs.Input.{Received};
 ghost use Rattle.output.specs.Output.{Took};
 ghost use Rattle.output.specs.declared.cut.AtCut.TheVariants.{Fails, TakesNone};
@@ -73,7 +73,7 @@ impl<O: Out + Drop> Cut<O> {
     fn put_front(&mut self, bytes: &[u8]) -> Result<usize, IoError>
         requires { 0 < self.old.left }
         ensures took { Took (O.writing self.old.inner) (O.writing self.new.inner) bytes.now result }
-        ensures passes { Passes self.old.left self.new.left result }
+        ensures passes { CountsCall self.old.left self.new.left result }
         ensures same { (self.new.at_cut ≡ self.old.at_cut) × (self.new.failed ≡ self.old.failed) }
     {
         let (front, _) = bytes.split_at(bytes.len().min(self.left));
@@ -93,7 +93,7 @@ impl<O: Out + Drop> Out for Cut<O> {
     fn put(&mut self, bytes: &[u8]) -> Result<usize, IoError>
         ensures took { Took (with_errors self.old.failed (O.writing self.old.inner))
             (with_errors self.new.failed (O.writing self.new.inner)) bytes.now result }
-        ensures passes { self.old.failed < 2 ^ 64 - 1 → Passes self.old.left self.new.left result }
+        ensures passes { self.old.failed < 2 ^ 64 - 1 → CountsCall self.old.left self.new.left result }
         ensures ends { self.old.failed < 2 ^ 64 - 1 → self.old.left ≡ 0 → 0 < length bytes.now
             → EndsAtCut self.old.at_cut result }
         ensures same { self.new.at_cut ≡ self.old.at_cut }
@@ -114,8 +114,8 @@ impl<O: Out + Drop> Out for Cut<O> {
         }
     }
 
-    fn hand_on(&mut self) -> Result<(), IoError> {
-        self.inner.hand_on()
+    fn flush_all(&mut self) -> Result<(), IoError> {
+        self.inner.flush_all()
     }
 }
 
@@ -124,7 +124,7 @@ impl<I: In + Drop> Cut<I> {
     fn take_front(&mut self, room: &mut [u8]) -> Result<usize, IoError>
         requires { 0 < self.old.left }
         ensures received { Received (I.reading self.old.inner) (I.reading self.new.inner) room.new result }
-        ensures passes { Passes self.old.left self.new.left result }
+        ensures passes { CountsCall self.old.left self.new.left result }
         ensures same { (self.new.at_cut ≡ self.old.at_cut) × (self.new.failed ≡ self.old.failed) }
     {
         let most = room.len().min(self.left);
@@ -159,7 +159,7 @@ impl<I: In + Drop> In for Cut<I> {
     fn take(&mut self, room: &mut [u8]) -> Result<usize, IoError>
         ensures received { Received (cut_off self.old.at_cut self.old.left self.old.failed (I.reading self.old.inner))
             (cut_off self.new.at_cut self.new.left self.new.failed (I.reading self.new.inner)) room.new result }
-        ensures passes { self.old.failed < 2 ^ 64 - 1 → Passes self.old.left self.new.left result }
+        ensures passes { self.old.failed < 2 ^ 64 - 1 → CountsCall self.old.left self.new.left result }
         ensures ends { self.old.failed < 2 ^ 64 - 1 → self.old.left ≡ 0 → 0 < length room.new
             → EndsAtCut self.old.at_cut result }
         ensures same { self.new.at_cut ≡ self.old.at_cut }

@@ -16,7 +16,7 @@ const ROOM: usize = 0x4000;
 const FULL: usize = ROOM - 64;
 
 /// A writer that gathers lines on a page. Bytes on the page count as taken: `flush` sends them at
-/// the end, and `hand_on` wherever a caller wants it. Where the writer below fails, the line being put
+/// the end, and `flush_all` wherever a caller wants it. Where the writer below fails, the line being put
 /// isn't taken.
 #[derive(Drop)]
 pub struct Paged<O: Out + Drop> {
@@ -130,9 +130,9 @@ impl<O: Out + Drop> Out for Paged<O> {
         }
     }
 
-    fn hand_on(&mut self) -> Result<(), IoError> {
+    fn flush_all(&mut self) -> Result<(), IoError> {
         match self.flush() {
-            Ok(()) => self.inner.hand_on(),
+            Ok(()) => self.inner.flush_all(),
             Err(error) => Err(error),
         }
     }

@@ -81,7 +81,7 @@ pub trait Out {
     }
 
     /// Sends the bytes that wait. On an error some of them may still wait.
-    fn hand_on(&mut self) -> Result<(), IoError>
+    fn flush_all(&mut self) -> Result<(), IoError>
         ensures { HandsOn (writing self.old) (writing self.new) result };
 }
 
@@ -156,7 +156,7 @@ impl<W: Write + Drop, K: Ledger> Out for Over<W, K> {
         }
     }
 
-    fn hand_on(&mut self) -> Result<(), IoError> {
+    fn flush_all(&mut self) -> Result<(), IoError> {
         Ok(())
     }
 }

@@ -4,7 +4,7 @@ use Rattle.std.specs.Prelude.{ℕ, ◌+◌, ◌%◌, ◌<◌, ◌≤◌, Bool, �
 use Rattle.std.specs.Prelude.{List, [], ◌∷◌, replicate, Option, Some, None, option_map}
 use Rattle.devices.specs.declared.device.Device.{Device}
 use Rattle.platform.specs.declared.board.Layout.{Layout}
-use Rattle.platform.specs.declared.exception.TheConstants.{MOST_INTERRUPTS}
+use Rattle.platform.specs.declared.exception.TheConstants.{MAX_INTERRUPTS}
 use Rattle.platform.specs.declared.script.ScriptedEvent.{ScriptedEvent}
 use Rattle.platform.specs.declared.script.Signal.{Signal}
 use Rattle.platform.specs.declared.script.Signal.TheVariants.{Rise, Fall, Pulse, Nmi, Poke}
@@ -55,15 +55,15 @@ abbrev pub block : ℕ
 block = 1024
 
 -- flash and RAM have a mebibyte each at most
-abbrev pub most_bytes : ℕ
-most_bytes = 0x10_0000
+abbrev pub max_bytes : ℕ
+max_bytes = 0x10_0000
 
 -- the second RAM has 16 mebibytes at most
-abbrev pub most_second_bytes : ℕ
-most_second_bytes = 0x100_0000
+abbrev pub max_second_bytes : ℕ
+max_second_bytes = 0x100_0000
 
-abbrev pub most_events : ℕ
-most_events = 65536
+abbrev pub max_events : ℕ
+max_events = 65536
 
 -- the earliest tick that an event may have
 abbrev pub first_tick : ℕ
@@ -75,7 +75,7 @@ is_whole_blocks bytes = bytes % block == 0
 
 -- a size of flash or RAM
 abbrev pub is_size : ℕ → Bool
-is_size bytes = (is_whole_blocks bytes && nat_le block bytes) && nat_le bytes most_bytes
+is_size bytes = (is_whole_blocks bytes && nat_le block bytes) && nat_le bytes max_bytes
 
 -- flash of a size at a base, which ends where RAM begins, or before
 abbrev pub is_flash : ℕ → ℕ → Bool
@@ -83,7 +83,7 @@ is_flash base bytes = is_size bytes && nat_le (base + bytes) ram_base
 
 -- a size of a second RAM
 abbrev pub is_second_size : ℕ → Bool
-is_second_size bytes = (is_whole_blocks bytes && nat_le block bytes) && nat_le bytes most_second_bytes
+is_second_size bytes = (is_whole_blocks bytes && nat_le block bytes) && nat_le bytes max_second_bytes
 
 -- a second RAM has no byte of flash and none of RAM
 abbrev pub is_apart : Numbers → RamSpan → Bool
@@ -108,7 +108,7 @@ is_priority_bits bits = nat_le 3 bits && nat_le bits 8
 
 -- a number of interrupts
 abbrev pub is_interrupt_count : ℕ → Bool
-is_interrupt_count interrupts = nat_le interrupts MOST_INTERRUPTS
+is_interrupt_count interrupts = nat_le interrupts MAX_INTERRUPTS
 
 -- a number of MPU regions
 abbrev pub is_region_count : ℕ → Bool

@@ -7,7 +7,7 @@ use Rattle.instruction_set.specs.declared.unpredictable.UnpredictableCase.TheVar
 use Rattle.instruction_set.specs.Registers.{weighed}
 use Rattle.instruction_set.specs.Words.{is_bit}
 use Rattle.platform.specs.declared.exception.TheConstants.{NMI, PEND_SV, SYS_TICK}
-use Rattle.platform.specs.declared.stop.LeftOut.TheVariants.{ResetControl}
+use Rattle.platform.specs.declared.stop.Unsupported.TheVariants.{ResetControl}
 use Rattle.platform.specs.declared.stop.Stop.{Stop}
 use Rattle.platform.specs.declared.stop.Stop.TheVariants.{Unpredictable, OutOfProfile, ResetRequested}
 use Rattle.platform.specs.declared.system.ControlRegister.{ControlRegister}

@@ -6,7 +6,7 @@ use Rattle.instruction_set.specs.Registers.{weighed}
 use Rattle.instruction_set.specs.Words.{is_bit}
 use Rattle.platform.specs.declared.exception.TheConstants.{MEM_MANAGE, BUS_FAULT, USAGE_FAULT, SV_CALL, PEND_SV}
 use Rattle.platform.specs.declared.exception.TheConstants.{SYS_TICK}
-use Rattle.platform.specs.declared.stop.LeftOut.TheVariants.{ActiveBit}
+use Rattle.platform.specs.declared.stop.Unsupported.TheVariants.{ActiveBit}
 use Rattle.platform.specs.declared.stop.Stop.{Stop}
 use Rattle.platform.specs.declared.stop.Stop.TheVariants.{OutOfProfile}
 use Rattle.platform.specs.Priorities.{Nvic, is_in, is_enabled, with_enabled, with_pending}

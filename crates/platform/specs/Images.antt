@@ -23,8 +23,8 @@ abbrev pub program_header_size : ℕ
 program_header_size = 32
 
 -- how many program headers a file may have (profile)
-abbrev pub most_program_headers : ℕ
-most_program_headers = 64
+abbrev pub max_program_headers : ℕ
+max_program_headers = 64
 
 -- e_ident begins with 7F and "ELF"
 abbrev pub has_magic : List ℕ → Bool
@@ -123,12 +123,12 @@ abbrev pub IsTarget : ℕ → Segment → Type 0
 IsTarget address segment = (segment.address ≤ address) × (address < target_end segment)
 
 -- no address is a target of both
-abbrev pub AreApart : Segment → Segment → Type 0
-AreApart one other = (address : ℕ) → IsTarget address one → IsTarget address other → ⊥
+abbrev pub ShareNoTarget : Segment → Segment → Type 0
+ShareNoTarget one other = (address : ℕ) → IsTarget address one → IsTarget address other → ⊥
 
 -- each segment of a list is apart from each later one: it is proved that `have_overlap` is false just where this holds
-unfoldable pub AreAllApart : List Segment → Type 0
-AreAllApart segments = AllPairs AreApart segments
+unfoldable pub AreSegmentsApart : List Segment → Type 0
+AreSegmentsApart segments = AllPairs ShareNoTarget segments
 
 -- segments of which two share an address are refused
 abbrev pub without_overlap : Result (List Segment) LoadError → Result (List Segment) LoadError
@@ -138,7 +138,7 @@ without_overlap (Err error) = Err error
 -- the segments of the table, or the first refusal
 abbrev pub table_of : List ℕ → Result (List Segment) LoadError
 table_of file =
-    if nat_lt most_program_headers (e_phnum file) then Err TooManySegments
+    if nat_lt max_program_headers (e_phnum file) then Err TooManySegments
     else if e_phnum file == 0 then Ok []
     else if not (e_phentsize file == program_header_size) then Err HeaderSize
     else if nat_lt (length file) (e_phoff file + program_header_size * e_phnum file) then Err Truncated

@@ -5,7 +5,7 @@ use Rattle.std.specs.Prelude.{ℕ, zero, suc, ◌+◌, ◌-◌, ◌*◌, ◌/◌
 use Rattle.std.specs.Prelude.{if◌then◌else◌, slice_index, Option, Some, None}
 use Rattle.instruction_set.specs.Registers.{weighed}
 use Rattle.instruction_set.specs.Words.{is_bit}
-use Rattle.platform.specs.declared.exception.TheConstants.{FIRST_INTERRUPT, MOST_INTERRUPTS}
+use Rattle.platform.specs.declared.exception.TheConstants.{FIRST_INTERRUPT, MAX_INTERRUPTS}
 use Rattle.platform.specs.declared.system.InterruptRegister.{InterruptRegister}
 use Rattle.platform.specs.declared.system.InterruptRegister.TheVariants.{Iser, Icer, Ispr, Icpr, Iabr}
 use Rattle.platform.specs.Priorities.{Nvic, is_in, is_enabled, with_enabled, with_pending, with_priority}
@@ -78,7 +78,7 @@ ipr_base = 0xE000_E400
 -- the exception whose priority is the lowest byte of a word
 unfoldable pub interrupt_priority_at : ℕ → Option ℕ
 interrupt_priority_at word =
-    if nat_le ipr_base word && nat_lt word (ipr_base + MOST_INTERRUPTS) then Some
+    if nat_le ipr_base word && nat_lt word (ipr_base + MAX_INTERRUPTS) then Some
     (FIRST_INTERRUPT + (word - ipr_base)) else None
 
 -- the priority bytes of four exceptions, x and those that follow, as a word; one that has no priority reads 0

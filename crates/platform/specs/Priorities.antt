@@ -14,7 +14,7 @@ use Rattle.platform.specs.declared.exception.Escalation.{Escalation}
 use Rattle.platform.specs.declared.exception.Escalation.TheVariants.{Itself, HardFault, Lockup}
 use Rattle.platform.specs.declared.exception.Masks.{Masks}
 use Rattle.platform.specs.declared.exception.TheConstants.{NMI, HARD_FAULT, MEM_MANAGE, USAGE_FAULT, SV_CALL, PEND_SV}
-use Rattle.platform.specs.declared.exception.TheConstants.{SYS_TICK, FIRST_INTERRUPT, MOST_INTERRUPTS, EXCEPTIONS}
+use Rattle.platform.specs.declared.exception.TheConstants.{SYS_TICK, FIRST_INTERRUPT, MAX_INTERRUPTS, EXCEPTIONS}
 
 -- Each list has an element for every number below EXCEPTIONS, also for numbers that no exception has.
 pub record Nvic : Type 0 where
@@ -233,7 +233,7 @@ reset_nvic interrupts bits = record {
   priorities = replicate EXCEPTIONS 0;
   group = 0;
   masks = record { primask = false; faultmask = false; basepri = 0 };
-  interrupts = min interrupts MOST_INTERRUPTS;
+  interrupts = min interrupts MAX_INTERRUPTS;
   priority_bits = bits;
 }
 

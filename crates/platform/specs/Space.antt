@@ -47,6 +47,6 @@ written_to m rule q =
     else unchanged m (bus_error rule)
 
 -- a request that a rule granted, at a tick, carried out by memory or the window
-unfoldable pub space_access : Memory → ℕ → Rule → Request → Outcome Memory
-space_access m ticks rule q =
+unfoldable pub memory_access : Memory → ℕ → Rule → Request → Outcome Memory
+memory_access m ticks rule q =
     if is_write q.access.kind then written_to m rule q else unchanged m (read_from m ticks rule q)

@@ -4,7 +4,7 @@
 use Rattle.std.specs.Prelude.{ℕ, ◌-◌, ◌*◌, ◌/◌, ◌^◌, Bool, true, false, ◌==◌, if◌then◌else◌, Option, Some, None, Result}
 use Rattle.std.specs.Prelude.{Ok, Err, bit_and, bit_or}
 use Rattle.instruction_set.specs.Words.{is_bit}
-use Rattle.platform.specs.declared.stop.LeftOut.TheVariants.{IgnoredBusFaults, SleepOnExit}
+use Rattle.platform.specs.declared.stop.Unsupported.TheVariants.{IgnoredBusFaults, SleepOnExit}
 use Rattle.platform.specs.declared.stop.Stop.{Stop}
 use Rattle.platform.specs.declared.stop.Stop.TheVariants.{OutOfProfile}
 use Rattle.platform.specs.declared.system.StatusRegister.{StatusRegister}

@@ -20,7 +20,7 @@ use Rattle.platform.specs.declared.mpu.MpuStop.{MpuStop}
 use Rattle.platform.specs.declared.script.ScriptedEvent.{ScriptedEvent}
 use Rattle.platform.specs.declared.script.Signal.{Signal}
 use Rattle.platform.specs.declared.script.Signal.TheVariants as signal
-use Rattle.platform.specs.declared.stop.LeftOut.TheVariants.{RegisterWidth}
+use Rattle.platform.specs.declared.stop.Unsupported.TheVariants.{RegisterWidth}
 use Rattle.platform.specs.declared.stop.Stop.{Stop}
 use Rattle.platform.specs.declared.stop.Stop.TheVariants.{OutOfProfile}
 use Rattle.platform.specs.declared.system.SystemRegister.{SystemRegister}

@@ -5,7 +5,7 @@ use Rattle.std.specs.Prelude.{Option, Some, None}
 use Rattle.devices.specs.declared.device.Device.{Device}
 use Rattle.devices.specs.declared.device.Line.{Line}
 use Rattle.devices.specs.Devices.{DeviceWords}
-use Rattle.platform.specs.declared.exception.TheConstants.{EXCEPTIONS, MOST_INTERRUPTS}
+use Rattle.platform.specs.declared.exception.TheConstants.{EXCEPTIONS, MAX_INTERRUPTS}
 use Rattle.platform.specs.Boards.{Described, IsScript, IsScriptFrom, is_flash, is_interrupt_count, is_region_count}
 use Rattle.platform.specs.Boards.{is_second_ram_or_none, is_size}
 use Rattle.platform.specs.Map.{is_for_memory}
@@ -50,13 +50,13 @@ pub record HasExceptionsOfBoard (n : Nvic) : Type 0 where
   pub pending : HasOnly (is_exception n.interrupts) n.pending
   pub enabled : HasOnly (can_be_disabled n.interrupts) n.enabled
   pub active : HasOnly (is_exception n.interrupts) n.active
-  pub interrupts : n.interrupts ≤ MOST_INTERRUPTS
+  pub interrupts : n.interrupts ≤ MAX_INTERRUPTS
 
 -- the events that are still to come are a script, later than the clock, of a board with this number of interrupts, and
--- `high` has MOST_INTERRUPTS elements
+-- `high` has MAX_INTERRUPTS elements
 pub record IsAhead (interrupts : ℕ) (t : Time) : Type 0 where
   pub script : IsScriptFrom interrupts (t.ticks + 1) t.script
-  pub high : length t.high ≡ MOST_INTERRUPTS
+  pub high : length t.high ≡ MAX_INTERRUPTS
 
 -- no address is in the block and in one of these
 abbrev pub IsApartFrom : Block → Memory → Type 0

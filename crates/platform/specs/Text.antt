@@ -22,10 +22,10 @@ use Rattle.platform.specs.declared.access.Rule.{Rule}
 use Rattle.platform.specs.declared.access.Rule.TheVariants.{NeverExecute, VectorRead, PrivatePeripheralBus, MpuOff}
 use Rattle.platform.specs.declared.access.Rule.TheVariants.{NegativePriority, Region, Background, NoRegion}
 use Rattle.platform.specs.declared.event.RecordedFault.{RecordedFault}
-use Rattle.platform.specs.declared.stop.LeftOut.{LeftOut}
-use Rattle.platform.specs.declared.stop.LeftOut.TheVariants.{ExclusiveDevice, UnalignedDevice, RegisterWidth}
-use Rattle.platform.specs.declared.stop.LeftOut.TheVariants.{ActiveBit, IgnoredBusFaults, SleepOnExit, ResetControl}
-use Rattle.platform.specs.declared.stop.LeftOut.TheVariants.{ClockEnd}
+use Rattle.platform.specs.declared.stop.Unsupported.{Unsupported}
+use Rattle.platform.specs.declared.stop.Unsupported.TheVariants.{ExclusiveDevice, UnalignedDevice, RegisterWidth}
+use Rattle.platform.specs.declared.stop.Unsupported.TheVariants.{ActiveBit, IgnoredBusFaults, SleepOnExit, ResetControl}
+use Rattle.platform.specs.declared.stop.Unsupported.TheVariants.{ClockEnd}
 use Rattle.platform.specs.declared.stop.Stop.{Stop}
 use Rattle.platform.specs.declared.stop.Stop.TheVariants.{StepLimit, Breakpoint, Lockup, Unpredictable, OutOfProfile}
 use Rattle.platform.specs.declared.stop.Stop.TheVariants.{ResetRequested}
@@ -107,22 +107,22 @@ unpredictable_text Icsr = codes "icsr"
 unpredictable_text ExceptionReturn = codes "exc-return"
 unpredictable_text PoppedPc = codes "popped-pc"
 
-abbrev pub left_out_text : LeftOut → List ℕ
-left_out_text ExclusiveDevice = codes "exclusive-device"
-left_out_text UnalignedDevice = codes "unaligned-device"
-left_out_text RegisterWidth = codes "register-width"
-left_out_text ActiveBit = codes "active-bit"
-left_out_text IgnoredBusFaults = codes "bfhfnmign"
-left_out_text SleepOnExit = codes "sleeponexit"
-left_out_text ResetControl = codes "aircr"
-left_out_text ClockEnd = codes "clock-end"
+abbrev pub unsupported_text : Unsupported → List ℕ
+unsupported_text ExclusiveDevice = codes "exclusive-device"
+unsupported_text UnalignedDevice = codes "unaligned-device"
+unsupported_text RegisterWidth = codes "register-width"
+unsupported_text ActiveBit = codes "active-bit"
+unsupported_text IgnoredBusFaults = codes "bfhfnmign"
+unsupported_text SleepOnExit = codes "sleeponexit"
+unsupported_text ResetControl = codes "aircr"
+unsupported_text ClockEnd = codes "clock-end"
 
 abbrev pub stop_text : Stop → List ℕ
 stop_text StepLimit = codes "steps"
 stop_text (Breakpoint number) = codes "breakpoint " ++ decimal number
 stop_text Lockup = codes "lockup"
 stop_text (Unpredictable why) = codes "unpredictable " ++ unpredictable_text why
-stop_text (OutOfProfile why) = codes "outofprofile " ++ left_out_text why
+stop_text (OutOfProfile why) = codes "outofprofile " ++ unsupported_text why
 stop_text ResetRequested = codes "reset"
 
 -- the line of a stop

@@ -6,7 +6,7 @@ use Rattle.std.specs.Prelude.{if◌then◌else◌, List, [], ◌∷◌, take, dr
 use Rattle.std.specs.List.{prefix_len, list_any}
 use Rattle.instruction_set.specs.Registers.{weighed}
 use Rattle.instruction_set.specs.Words.{is_bit}
-use Rattle.platform.specs.declared.exception.TheConstants.{NMI, SYS_TICK, FIRST_INTERRUPT, MOST_INTERRUPTS}
+use Rattle.platform.specs.declared.exception.TheConstants.{NMI, SYS_TICK, FIRST_INTERRUPT, MAX_INTERRUPTS}
 use Rattle.platform.specs.declared.script.ScriptedEvent.{ScriptedEvent}
 use Rattle.platform.specs.declared.script.Signal.{Signal}
 use Rattle.platform.specs.declared.script.Signal.TheVariants.{Rise, Fall, Pulse, Nmi, Poke}
@@ -142,7 +142,7 @@ abbrev pub start_time : List ScriptedEvent → Time
 start_time script = record {
   ticks = 0;
   systick = reset_systick;
-  high = replicate MOST_INTERRUPTS false;
+  high = replicate MAX_INTERRUPTS false;
   script = script;
 }
 

@@ -8,7 +8,7 @@ use crate::stop::Stop;
 use instruction_set::size::Size;
 
 /// No instruction has more accesses than this.
-pub const MOST_REQUESTS: usize = 16;
+pub const MAX_REQUESTS: usize = 16;
 
 /// What an access is for.
 #[derive(Clone, Copy)]
@@ -147,7 +147,7 @@ pub struct DoneAccess {
     pub rule: Rule,
     /// The value of a read, and 0 for a write.
     pub value: u32,
-    /// The byte that a store to OUT sends to the console.
+    /// The byte that a store sends to the console.
     pub sent: Option<u8>,
 }
 

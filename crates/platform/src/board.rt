@@ -1,7 +1,7 @@
 //! The numbers of a board, without its script.
 
 ghost use Rattle.std.specs.Prelude.{◌≡◌, ◌+◌, ◌%◌, ◌≤◌, ◌&&◌, true, option_map, unwrap_or};
-ghost use Rattle.platform.specs.declared.exception.TheConstants.{MOST_INTERRUPTS};
+ghost use Rattle.platform.specs.declared.exception.TheConstants.{MAX_INTERRUPTS};
 ghost use Rattle.platform.specs.Map.{are_apart, is_for_memory, ram_base};
 
 use crate::mpu::RegionCount;
@@ -56,7 +56,7 @@ pub struct Layout {
         && are_apart ram_base ram_size second.base second.size) second_ram) true ≡ true },
     pub ghost bits_are_enough: { 3 ≤ priority_bits },
     pub ghost bits_are_few: { priority_bits ≤ 8 },
-    pub ghost interrupts_are_few: { interrupts ≤ MOST_INTERRUPTS },
+    pub ghost interrupts_are_few: { interrupts ≤ MAX_INTERRUPTS },
 }
 
 /// The layout of the small board: 4 KiB of flash at 0 and 8 KiB of RAM.

@@ -7,7 +7,7 @@ use crate::access::DecidedAccess;
 
 /// No step has more lines than this: those of two fetches, of at most 16 accesses with a byte for the
 /// console each, and of a return from an exception, which are ten.
-pub const MOST_EVENTS: usize = 44;
+pub const MAX_EVENTS: usize = 44;
 
 /// One line of the trace.
 #[derive(Clone, Copy)]

@@ -33,7 +33,7 @@ pub const SYS_TICK: u16 = 15;
 pub const FIRST_INTERRUPT: u16 = 16;
 
 /// The most interrupts that a board can have here, of the 496 that the manual allows (profile).
-pub const MOST_INTERRUPTS: u8 = 240;
+pub const MAX_INTERRUPTS: u8 = 240;
 
 /// One more than the greatest number of an exception here.
 pub const EXCEPTIONS: u16 = 256;

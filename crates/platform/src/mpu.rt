@@ -37,7 +37,7 @@ pub struct Region {
 }
 
 /// The most regions that an MPU can have here, of the 255 that MPU_TYPE.DREGION can say (profile).
-pub const MOST_REGIONS: u8 = 16;
+pub const MAX_REGIONS: u8 = 16;
 
 /// How many regions an MPU has: MPU_TYPE.DREGION.
 #[derive(Clone, Copy)]
@@ -54,7 +54,7 @@ impl RegionCount {
     {
         match self {
             RegionCount::Eight => 8,
-            RegionCount::Sixteen => MOST_REGIONS,
+            RegionCount::Sixteen => MAX_REGIONS,
         }
     }
 }

@@ -2,7 +2,7 @@
 
 ghost use Rattle.std.specs.Prelude.{◌≡◌, ◌<◌};
 
-use crate::exception::MOST_INTERRUPTS;
+use crate::exception::MAX_INTERRUPTS;
 pub use devices::Poke;
 use std::marker::Model;
 
@@ -15,13 +15,13 @@ pub struct InterruptNumber {
 
 impl Model for InterruptNumber {
     ghost use Rattle.std.specs.Prelude.{ℕ, ◌<◌};
-    ghost use Rattle.platform.specs.declared.exception.TheConstants.{MOST_INTERRUPTS};
+    ghost use Rattle.platform.specs.declared.exception.TheConstants.{MAX_INTERRUPTS};
 
     ghost Value = { ℕ };
 
     ghost view = { λ l. l.number };
 
-    ghost invariant = { λ l. l.number < MOST_INTERRUPTS };
+    ghost invariant = { λ l. l.number < MAX_INTERRUPTS };
 
     ghost inverse = { λ n. record { number = n } };
 }
@@ -29,7 +29,7 @@ impl Model for InterruptNumber {
 impl InterruptNumber {
     /// Returns the interrupt of this number.
     pub const fn new(number: u8) -> Self
-        requires { number < MOST_INTERRUPTS }
+        requires { number < MAX_INTERRUPTS }
         ensures { result ≡ number }
     {
         InterruptNumber { number }
@@ -38,7 +38,7 @@ impl InterruptNumber {
     /// Returns the number of the interrupt, from 0 to 239.
     pub fn number(self) -> u8
         ensures value { result ≡ self }
-        ensures small { result < MOST_INTERRUPTS }
+        ensures small { result < MAX_INTERRUPTS }
     {
         self.number
     }

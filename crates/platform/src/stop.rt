@@ -17,14 +17,14 @@ pub enum Stop {
     /// with a named stop.
     Unpredictable(UnpredictableCase),
     /// The case is left out of this project's profile.
-    OutOfProfile(LeftOut),
+    OutOfProfile(Unsupported),
     /// Software asked for a reset through AIRCR.SYSRESETREQ.
     ResetRequested,
 }
 
 /// What this project's profile leaves out.
 #[derive(Clone, Copy, PartialEq, Eq)]
-pub enum LeftOut {
+pub enum Unsupported {
     /// An aligned exclusive access to the device window or the Private Peripheral Bus.
     ExclusiveDevice,
     /// An access that would be made byte by byte, with a byte in the device window or the Private Peripheral
@@ -55,7 +55,6 @@ pub trait NamedStop: Copy {
 
     ghost text: { Self → List ℕ };
 
-    /// Returns all cases.
     fn all() -> &'static [Self]
         ensures { result.now ≡ all };
 
@@ -150,31 +149,31 @@ impl NamedStop for UnpredictableCase {
 }
 
 /// All cases that the profile leaves out.
-static LEFT_OUT: [LeftOut; 8] = [
-    LeftOut::ExclusiveDevice,
-    LeftOut::UnalignedDevice,
-    LeftOut::RegisterWidth,
-    LeftOut::ActiveBit,
-    LeftOut::IgnoredBusFaults,
-    LeftOut::SleepOnExit,
-    LeftOut::ResetControl,
-    LeftOut::ClockEnd,
+static UNSUPPORTED_CASES: [Unsupported; 8] = [
+    Unsupported::ExclusiveDevice,
+    Unsupported::UnalignedDevice,
+    Unsupported::RegisterWidth,
+    Unsupported::ActiveBit,
+    Unsupported::IgnoredBusFaults,
+    Unsupported::SleepOnExit,
+    Unsupported::ResetControl,
+    Unsupported::ClockEnd,
 ];
 
-impl NamedStop for LeftOut {
+impl NamedStop for Unsupported {
     ghost use Rattle.platform.specs.declared.stop.Stop.TheVariants as stop;
-    ghost use Rattle.platform.specs.declared.stop.TheConstants.{LEFT_OUT};
-    ghost use Rattle.platform.specs.declared.stop.LeftOut.TheVariants as case;
-    ghost use Rattle.platform.specs.Text.{left_out_text};
+    ghost use Rattle.platform.specs.declared.stop.TheConstants.{UNSUPPORTED_CASES};
+    ghost use Rattle.platform.specs.declared.stop.Unsupported.TheVariants as case;
+    ghost use Rattle.platform.specs.Text.{unsupported_text};
 
-    ghost all = { LEFT_OUT };
+    ghost all = { UNSUPPORTED_CASES };
 
     ghost stop = { λ case. stop.OutOfProfile case };
 
-    ghost text = { left_out_text };
+    ghost text = { unsupported_text };
 
     fn all() -> &'static [Self] {
-        &LEFT_OUT
+        &UNSUPPORTED_CASES
     }
 
     fn stop(self) -> Stop {
@@ -183,14 +182,14 @@ impl NamedStop for LeftOut {
 
     fn word(self) -> &'static [u8] {
         match self {
-            LeftOut::ExclusiveDevice => b"exclusive-device",
-            LeftOut::UnalignedDevice => b"unaligned-device",
-            LeftOut::RegisterWidth => b"register-width",
-            LeftOut::ActiveBit => b"active-bit",
-            LeftOut::IgnoredBusFaults => b"bfhfnmign",
-            LeftOut::SleepOnExit => b"sleeponexit",
-            LeftOut::ResetControl => b"aircr",
-            LeftOut::ClockEnd => b"clock-end",
+            Unsupported::ExclusiveDevice => b"exclusive-device",
+            Unsupported::UnalignedDevice => b"unaligned-device",
+            Unsupported::RegisterWidth => b"register-width",
+            Unsupported::ActiveBit => b"active-bit",
+            Unsupported::IgnoredBusFaults => b"bfhfnmign",
+            Unsupported::SleepOnExit => b"sleeponexit",
+            Unsupported::ResetControl => b"aircr",
+            Unsupported::ClockEnd => b"clock-end",
         }
     }
 

@@ -4,7 +4,7 @@ use Rattle.toml.specs.Data.{Items, Members, get_member}
 use Rattle.devices.specs.declared.device.Device.{Device}
 use Rattle.board.specs.Texts.{script_in}
 use Rattle.board.specs.Values.{◌>>=◌, tables_at}
-use Rattle.platform.specs.Boards.{Described, Numbers, first_tick, most_events}
+use Rattle.platform.specs.Boards.{Described, Numbers, first_tick, max_events}
 use Rattle.platform.specs.declared.error.BoardError.{BoardError}
 use Rattle.platform.specs.declared.script.ScriptedEvent.{ScriptedEvent}
 use Rattle.reasons.specs.declared.problem.Problem.{Problem}
@@ -32,8 +32,8 @@ of_items numbers devices (Err error) (Some problem) h = cc
 
 pub after_devices : (document : Members) (numbers : Numbers) (devices : List Device) (found : Option Problem)
     → Finds found (script_of numbers.interrupts devices document)
-    → Finds {A = Described} found (tables_at most_events (get_member (codes "event") document)
+    → Finds {A = Described} found (tables_at max_events (get_member (codes "event") document)
     >>= (λ (items : Items). script_in numbers.interrupts devices first_tick items
     >>= (λ (script : List ScriptedEvent). Ok (record { numbers = numbers; script = script; devices = devices }))))
 after_devices document numbers devices found h =
-    of_items numbers devices (tables_at most_events (get_member (codes "event") document)) found h
+    of_items numbers devices (tables_at max_events (get_member (codes "event") document)) found h

@@ -2,7 +2,7 @@
 use Rattle.std.proofs.Common.{◌≡◌, ℕ, ◌+◌, ◌<◌, ◌≤◌, Bool, true, false, Option, Some, arith, below_more}
 use Rattle.platform.specs.Images.{Segment}
 use Rattle.reasons.specs.declared.header.NumberedSegment.{NumberedSegment}
-use Rattle.reasons.specs.Segments.{IsFirstOf, IsFirstPair, Picks, PicksPair, SharesAny}
+use Rattle.reasons.specs.Segments.{IsFirstSegmentWith, IsFirstPair, Picks, PicksPair, SharesWithLater}
 
 pub not_true : (b : Bool) → b ≡ false → ¬ (b ≡ true)
 not_true b off on = cc
@@ -15,7 +15,7 @@ none_more holds n none more = below_more (λ k. ¬ holds k) n none more
 -- it holds of one, and of none before
 pub first_found : (at : ℕ → Option Segment) (holds : ℕ → Type 0) (count index : ℕ) (numbered : NumberedSegment)
     → index < count → ((k : ℕ) → k < index → ¬ holds k) → Picks at (holds index) index (Some numbered)
-    → IsFirstOf at holds count (Some numbered)
+    → IsFirstSegmentWith at holds count (Some numbered)
 first_found at holds count index numbered below none picks =
     rw picks.0 (picks.1, (below, picks.2, none))
 
@@ -26,7 +26,7 @@ none_of_all holds count n all none k below = none k (omega (arith, below, all))
 
 -- the first pair
 pub pair_found : (at : ℕ → Option Segment) (count index : ℕ) (pair : NumberedSegment × NumberedSegment) → index < count
-    → ((k : ℕ) → k < index → ¬ SharesAny at count (at k) k) → PicksPair at count index (Some pair)
+    → ((k : ℕ) → k < index → ¬ SharesWithLater at count (at k) k) → PicksPair at count index (Some pair)
     → IsFirstPair at count (Some pair)
 pair_found at count index pair below none picks =
     rw picks.0 (

@@ -4,7 +4,7 @@ use Rattle.std.proofs.lemmas.Bool.Decides.{nat_tests}
 use Rattle.board.specs.Values.{where_ok}
 use Rattle.platform.specs.Boards.{is_interrupt_count}
 use Rattle.platform.specs.declared.error.BoardError.{BoardError}
-use Rattle.platform.specs.declared.exception.TheConstants.{MOST_INTERRUPTS}
+use Rattle.platform.specs.declared.exception.TheConstants.{MAX_INTERRUPTS}
 use Rattle.reasons.specs.Problems.{IfRefused}
 
 -- the number of a key is refused
@@ -18,7 +18,7 @@ pub read_here : (read : Result ℕ BoardError) (n : ℕ) (fact : Type 0) (later 
 read_here read n fact later is so = rw is so
 
 -- each number is at least 0
-pub in_lines : (n : ℕ) → (nat_le 0 n && nat_le n MOST_INTERRUPTS) ≡ is_interrupt_count n
+pub in_lines : (n : ℕ) → (nat_le 0 n && nat_le n MAX_INTERRUPTS) ≡ is_interrupt_count n
 in_lines n = let least : nat_le 0 n ≡ true = grind (arith, nat_tests) in rw least refl
 
 same_where : (f g : ℕ → Bool) (read : Result ℕ BoardError) → ((n : ℕ) → f n ≡ g n) → where_ok f read ≡ where_ok g read
@@ -27,5 +27,5 @@ same_where f g (Err error) same = refl
 
 -- a number of lines that is read by the numbers of the message is read by the test
 pub lines_read : (read found : Result ℕ BoardError)
-    → where_ok (λ n. nat_le 0 n && nat_le n MOST_INTERRUPTS) read ≡ found → where_ok is_interrupt_count read ≡ found
+    → where_ok (λ n. nat_le 0 n && nat_le n MAX_INTERRUPTS) read ≡ found → where_ok is_interrupt_count read ≡ found
 lines_read read found is = sym (same_where _ _ read in_lines) ∙ is

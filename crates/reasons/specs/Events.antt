@@ -5,7 +5,7 @@ use Rattle.toml.specs.Data.{Data, Items, no_items, item, Members, as_array, as_t
 use Rattle.devices.specs.declared.device.Device.{Device}
 use Rattle.board.specs.Texts.{script_in, timely_event}
 use Rattle.board.specs.Values.{◌>>=◌, tables_at, is_table}
-use Rattle.platform.specs.Boards.{first_tick, most_events}
+use Rattle.platform.specs.Boards.{first_tick, max_events}
 use Rattle.platform.specs.declared.error.BoardError.{BoardError}
 use Rattle.platform.specs.declared.error.BoardError.TheVariants.{WrongKind}
 use Rattle.platform.specs.declared.script.ScriptedEvent.{ScriptedEvent}
@@ -15,7 +15,7 @@ use Rattle.reasons.specs.Problems.{refusal_of}
 -- the events of a document, on a board with this many lines and these devices, or the first refusal
 abbrev pub script_of : ℕ → List Device → Members → Result (List ScriptedEvent) BoardError
 script_of lines devices document =
-    tables_at most_events (get_member (codes "event") document) >>= script_in lines devices first_tick
+    tables_at max_events (get_member (codes "event") document) >>= script_in lines devices first_tick
 
 -- the number of the first item that isn't a table, where the first item has this number
 abbrev pub first_untabled : ℕ → Items → Option ℕ

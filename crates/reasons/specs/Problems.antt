@@ -74,14 +74,14 @@ takes Tables n = false
 takes (Words words) n = false
 
 -- a key has this name, and its message names just the numbers that a test takes
-pub record Shows (name : List ℕ) (test : ℕ → Bool) (key : Key) : Type 0 where
+pub record ShowsKey (name : List ℕ) (test : ℕ → Bool) (key : Key) : Type 0 where
   pub is_named : key.name.now ≡ name
   pub has_range : (n : ℕ) → takes key.takes n ≡ test n
 
 -- a problem is one of the key with this name and this test
-abbrev pub Names : List ℕ → (ℕ → Bool) → Option Key → Type 0
-Names name test (Some key) = Shows name test key
-Names name test None = ⊥
+abbrev pub NamesKey : List ℕ → (ℕ → Bool) → Option Key → Type 0
+NamesKey name test (Some key) = ShowsKey name test key
+NamesKey name test None = ⊥
 
 -- a problem is that flash of a size at this base ends too high, the size itself being one that flash can have
 abbrev pub EndsTooHigh : ℕ → Problem → Type 0
@@ -109,17 +109,17 @@ IfRefused (Err error) refused later = refused
 unfoldable pub NamesFirst : Members → Problem → Type 0
 NamesFirst document problem =
     IfRefused (where_ok is_whole_blocks (number (get_member (codes "flash_base") document)))
-    (Names (codes "flash_base") is_whole_blocks (key_of problem)) (λ base.
+    (NamesKey (codes "flash_base") is_whole_blocks (key_of problem)) (λ base.
     IfRefused (where_ok (is_flash base) (number (get_member (codes "flash_size") document)))
-    (Names (codes "flash_size") is_size (key_of problem) ⊎ EndsTooHigh base problem) (λ flash.
+    (NamesKey (codes "flash_size") is_size (key_of problem) ⊎ EndsTooHigh base problem) (λ flash.
     IfRefused (where_ok is_size (number (get_member (codes "ram_size") document)))
-    (Names (codes "ram_size") is_size (key_of problem)) (λ ram.
+    (NamesKey (codes "ram_size") is_size (key_of problem)) (λ ram.
     IfRefused (where_ok is_priority_bits (number (get_member (codes "priority_bits") document)))
-    (Names (codes "priority_bits") is_priority_bits (key_of problem)) (λ bits.
+    (NamesKey (codes "priority_bits") is_priority_bits (key_of problem)) (λ bits.
     IfRefused (where_ok is_interrupt_count (number (get_member (codes "lines") document)))
-    (Names (codes "lines") is_interrupt_count (key_of problem)) (λ lines.
+    (NamesKey (codes "lines") is_interrupt_count (key_of problem)) (λ lines.
     IfRefused (where_ok is_region_count (number_or default_regions (get_member (codes "regions") document)))
-    (Names (codes "regions") is_region_count (key_of problem)) (λ regions. ⊥))))))
+    (NamesKey (codes "regions") is_region_count (key_of problem)) (λ regions. ⊥))))))
 
 -- a number is the one that is read, or a problem explains why none is read
 abbrev pub Explained : {A : Type 0} → Result A Problem → Result A BoardError → Type 0
@@ -127,9 +127,9 @@ Explained (Ok found) read = read ≡ Ok found
 Explained (Err problem) read = read ≡ Err (refusal_of problem)
 
 -- likewise for a number beside its value, or a problem of its key
-abbrev pub Reads : {A : Type 0} → Key → Result (ℕ × A) Problem → Result ℕ BoardError → Type 0
-Reads key (Ok found) read = read ≡ Ok found.0
-Reads key (Err problem) read = (read ≡ Err (refusal_of problem)) × (key_of problem ≡ Some key)
+abbrev pub ReadsKey : {A : Type 0} → Key → Result (ℕ × A) Problem → Result ℕ BoardError → Type 0
+ReadsKey key (Ok found) read = read ≡ Ok found.0
+ReadsKey key (Err problem) read = (read ≡ Err (refusal_of problem)) × (key_of problem ≡ Some key)
 
 -- nothing is wrong where something is read, or a problem explains why nothing is
 abbrev pub Passes : {A : Type 0} → Result (Unit {0}) Problem → Result A BoardError → Type 0

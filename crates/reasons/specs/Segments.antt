@@ -55,31 +55,31 @@ Picks at fact index (Some numbered) =
 Picks at fact index None = ¬ fact
 
 -- a numbered segment is the first one of which a fact holds; or it holds of none of them
-abbrev pub IsFirstOf : (ℕ → Option Segment) → (ℕ → Type 0) → ℕ → Option NumberedSegment → Type 0
-IsFirstOf at holds count (Some numbered) =
+abbrev pub IsFirstSegmentWith : (ℕ → Option Segment) → (ℕ → Type 0) → ℕ → Option NumberedSegment → Type 0
+IsFirstSegmentWith at holds count (Some numbered) =
     (at numbered.index ≡ Some (segment_of numbered.segment)) × IsFirst holds count (Some numbered.index)
-IsFirstOf at holds count None = IsFirst holds count None
+IsFirstSegmentWith at holds count None = IsFirst holds count None
 
 -- the segment of a program header shares an address with that of a later one
 abbrev pub SharesLater : (ℕ → Option Segment) → Segment → ℕ → ℕ → Type 0
 SharesLater at one index later = (index < later) × SharesWith one (at later)
 
 -- the segment of a program header shares an address with that of one of the later ones
-abbrev pub SharesAny : (ℕ → Option Segment) → ℕ → Option Segment → ℕ → Type 0
-SharesAny at count None index = ⊥
-SharesAny at count (Some one) index = (later : ℕ) × (later < count) × SharesLater at one index later
+abbrev pub SharesWithLater : (ℕ → Option Segment) → ℕ → Option Segment → ℕ → Type 0
+SharesWithLater at count None index = ⊥
+SharesWithLater at count (Some one) index = (later : ℕ) × (later < count) × SharesLater at one index later
 
 -- a segment at an index is picked, and the first one after it that shares an address with it; or there is none
 abbrev pub PicksPair : (ℕ → Option Segment) → ℕ → ℕ → Option (NumberedSegment × NumberedSegment) → Type 0
 PicksPair at count index (Some pair) =
     (pair.0.index ≡ index) × (at index ≡ Some (segment_of pair.0.segment))
-    × IsFirstOf at (SharesLater at (segment_of pair.0.segment) index) count (Some pair.1)
-PicksPair at count index None = ¬ SharesAny at count (at index) index
+    × IsFirstSegmentWith at (SharesLater at (segment_of pair.0.segment) index) count (Some pair.1)
+PicksPair at count index None = ¬ SharesWithLater at count (at index) index
 
 -- the first segment that shares an address with a later one, and the first of those; or no two share an address
 abbrev pub IsFirstPair : (ℕ → Option Segment) → ℕ → Option (NumberedSegment × NumberedSegment) → Type 0
 IsFirstPair at count (Some pair) =
     (at pair.0.index ≡ Some (segment_of pair.0.segment))
-    × IsFirst (λ k. SharesAny at count (at k) k) count (Some pair.0.index)
-    × IsFirstOf at (SharesLater at (segment_of pair.0.segment) pair.0.index) count (Some pair.1)
-IsFirstPair at count None = IsFirst (λ k. SharesAny at count (at k) k) count None
+    × IsFirst (λ k. SharesWithLater at count (at k) k) count (Some pair.0.index)
+    × IsFirstSegmentWith at (SharesLater at (segment_of pair.0.segment) pair.0.index) count (Some pair.1)
+IsFirstPair at count None = IsFirst (λ k. SharesWithLater at count (at k) k) count None

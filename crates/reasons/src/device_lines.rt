@@ -16,7 +16,7 @@ use crate::keys::{Key, LINE_NAME};
 use crate::problem::{DeviceFault, Problem};
 use crate::settings::check_number;
 use board::{Device, Span, find, is_driven, is_followed, is_in_device, is_named};
-use platform::exception::MOST_INTERRUPTS;
+use platform::exception::MAX_INTERRUPTS;
 use toml::Table;
 
 /// Checks what a load from a table's device and a store to it do, after the devices before it.
@@ -65,7 +65,7 @@ pub fn check_device_line<'a>(
     counts: bool,
     table: &'a Table,
 ) -> Result<(), Problem<'a>>
-    requires { interrupts ≤ MOST_INTERRUPTS }
+    requires { interrupts ≤ MAX_INTERRUPTS }
     ensures { Passes result (line_in interrupts devices.now (span_read span.now) counts (table_view table.now)
         (get_member (codes "line") (table_view table.now))) }
 {

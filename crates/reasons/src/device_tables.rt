@@ -23,7 +23,7 @@ use crate::settings::{check_number, check_number_or, unknown};
 use board::device_ranges::{SPACE, is_device_size, is_outside};
 use board::keys::DEVICE_KEYS;
 use board::{
-    DEFAULT_DEVICE_BYTES, Device, Found, Layout, MOST_DEVICES, find, goes_with, listed_device,
+    DEFAULT_DEVICE_BYTES, Device, Found, Layout, MAX_DEVICES, find, goes_with, listed_device,
     span_in, values_in,
 };
 use toml::{Table, Value};
@@ -42,7 +42,7 @@ pub fn devices_problem<'a>(document: &'a Table, layout: &Layout) -> Option<PartP
     if let Some(found) = tables_problem(values, DEVICE_TABLE) {
         return Some(of_board(found.problem));
     }
-    if values.len() > MOST_DEVICES {
+    if values.len() > MAX_DEVICES {
         return Some(of_board(Problem::Count(DEVICE, values.len())));
     }
     listed_problem(values, layout)

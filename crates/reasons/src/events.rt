@@ -17,10 +17,10 @@ use crate::settings::{check_number, unknown};
 use board::keys::{BOARD_KEYS, INTERRUPT_KEYS, NMI_KEYS, POKE_KEYS, is_known};
 use board::ranges::FIRST_TICK;
 use board::{
-    Device, InterruptNumber, MOST_SCRIPT_EVENTS, change, find, is_device_word, is_driven, nmi,
+    Device, InterruptNumber, MAX_SCRIPT_EVENTS, change, find, is_device_word, is_driven, nmi,
     number,
 };
-use platform::exception::MOST_INTERRUPTS;
+use platform::exception::MAX_INTERRUPTS;
 use toml::{Table, Value};
 
 /// A problem of a board, or of one of its events.
@@ -38,7 +38,7 @@ pub fn events_problem<'a>(
     lines: u64,
     devices: &[Device],
 ) -> Option<EventProblem<'a>>
-    requires { lines ≤ MOST_INTERRUPTS }
+    requires { lines ≤ MAX_INTERRUPTS }
     ensures { Finds (option_map (λ p. p.problem) result) (script_of lines devices.now (table_view document.now)) }
 {
     let value = find(document, EVENT.name)?;
@@ -52,7 +52,7 @@ pub fn events_problem<'a>(
     if let Some(problem) = tables_problem(values, EVENT_TABLE) {
         return Some(problem);
     }
-    if values.len() > MOST_SCRIPT_EVENTS {
+    if values.len() > MAX_SCRIPT_EVENTS {
         return Some(EventProblem {
             number: 0,
             problem: Problem::Count(EVENT, values.len()),
@@ -113,7 +113,7 @@ fn script_problem<'a>(
     lines: u64,
     devices: &[Device],
 ) -> Option<EventProblem<'a>>
-    requires { lines ≤ MOST_INTERRUPTS }
+    requires { lines ≤ MAX_INTERRUPTS }
     ensures names { option_map refusal_in result
         ≡ first_refused lines devices.now FIRST_TICK 1 (items_view values.now) }
     ensures explains { Finds (option_map (λ p. p.problem) result)
@@ -142,7 +142,7 @@ fn check_event<'a>(
     devices: &[Device],
     before: u64,
 ) -> Result<u64, Problem<'a>>
-    requires { lines ≤ MOST_INTERRUPTS }
+    requires { lines ≤ MAX_INTERRUPTS }
     ensures { Explained result (tick_of (timely_event lines devices.now before (view value.now))) }
 {
     let Some(fields) = value.as_table() else {
@@ -158,7 +158,7 @@ fn check_event<'a>(
 
 /// Checks the signal of an event, by whether it has `nmi`.
 fn check_signal<'a>(fields: &'a Table, lines: u64, devices: &[Device]) -> Result<(), Problem<'a>>
-    requires { lines ≤ MOST_INTERRUPTS }
+    requires { lines ≤ MAX_INTERRUPTS }
     ensures { Passes result
         (signal_in lines devices.now (table_view fields.now) (get_member (codes "nmi") (table_view fields.now))) }
 {
@@ -174,7 +174,7 @@ fn check_device_signal<'a>(
     lines: u64,
     devices: &[Device],
 ) -> Result<(), Problem<'a>>
-    requires { lines ≤ MOST_INTERRUPTS }
+    requires { lines ≤ MAX_INTERRUPTS }
     ensures { Passes result
         (device_signal lines devices.now (table_view fields.now) (get_member (codes "poke") (table_view fields.now))) }
 {
@@ -229,7 +229,7 @@ fn check_nmi<'a>(fields: &'a Table, value: &'a Value) -> Result<(), Problem<'a>>
 /// Checks an event that names a line of the board.
 #[tactic(auto, unfolding(board::specs::Texts::interrupt_signal))]
 fn check_line<'a>(fields: &'a Table, lines: u64, devices: &[Device]) -> Result<(), Problem<'a>>
-    requires { lines ≤ MOST_INTERRUPTS }
+    requires { lines ≤ MAX_INTERRUPTS }
     ensures { Passes result (interrupt_signal lines devices.now (table_view fields.now)) }
 {
     let line = check_free_line(fields, lines, devices)?;

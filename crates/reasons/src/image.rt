@@ -2,14 +2,15 @@
 
 ghost use Rattle.std.specs.Prelude.{◌≡◌, ◌+◌, ◌*◌, ◌≤◌, ◌<◌, length, true};
 ghost use Rattle.elf.specs.Segment.{segment_of};
-ghost use Rattle.reasons.specs.Segments.{IsFirst, IsFirstOf, IsFirstPair, Picks, PicksPair, SharesLater, header_at};
+ghost use Rattle.reasons.specs.Segments.{IsFirst, IsFirstSegmentWith, IsFirstPair, Picks, PicksPair, SharesLater};
+ghost use Rattle.reasons.specs.Segments.{header_at};
 ghost use Rattle.reasons.specs.Segments.{lies_outside, segment_if};
 
 use crate::header::{HeaderTable, NumberedSegment, segment_at, table_of};
 use elf::{
     E_MACHINE, E_PHENTSIZE, E_PHNUM, E_TYPE, EI_CLASS, EI_DATA, ELF_HEADER_SIZE, ELFCLASS32,
-    ELFDATA2LSB, EM_ARM, ET_EXEC, LoadError, MOST_SEGMENTS, P_FILESZ, P_OFFSET,
-    PROGRAM_HEADER_SIZE, halfword, is_segment, segment_of_header, share_an_address, word,
+    ELFDATA2LSB, EM_ARM, ET_EXEC, LoadError, MAX_SEGMENTS, P_FILESZ, P_OFFSET, PROGRAM_HEADER_SIZE,
+    halfword, is_segment, segment_of_header, share_an_address, word,
 };
 use std::io;
 use std::io::Write;
@@ -48,7 +49,7 @@ pub fn write_image_reason<W: Write>(out: &mut W, file: &[u8], error: LoadError) 
             let count = halfword(file, E_PHNUM);
             writeln!(
                 out,
-                "e_phnum is {count}, and at most {MOST_SEGMENTS} program headers are read"
+                "e_phnum is {count}, and at most {MAX_SEGMENTS} program headers are read"
             )
         }
         LoadError::Truncated | LoadError::SegmentOutsideFile | LoadError::SegmentOverlap => {
@@ -195,7 +196,7 @@ fn overlap_with<'a>(
 ) -> Option<NumberedSegment<'a>>
     requires end { table.end ≡ table.place + PROGRAM_HEADER_SIZE * table.count }
     requires within { table.end ≤ length file.now }
-    ensures { IsFirstOf (λ k. segment_if file.now (header_at table k)) (SharesLater
+    ensures { IsFirstSegmentWith (λ k. segment_if file.now (header_at table k)) (SharesLater
         (λ k. segment_if file.now (header_at table k)) (segment_of one.now.segment) one.now.index) table.count result }
 {
     'headers: for index in 0..table.count {

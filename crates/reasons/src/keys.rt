@@ -4,14 +4,14 @@ ghost use Rattle.std.specs.Prelude.{◌≡◌};
 ghost use Rattle.reasons.specs.Problems.{takes};
 
 use board::device_ranges::{
-    LAST_WORD, MOST_DEVICE_BYTES, has_32_bits, is_device_base, is_device_bytes,
+    LAST_WORD, MAX_DEVICE_BYTES, has_32_bits, is_device_base, is_device_bytes,
 };
 use board::ranges::{
-    BLOCK, FIRST_TICK, LAST_BLOCK, LAST_TICK, LEAST_PRIORITY_BITS, MOST_BYTES, MOST_PRIORITY_BITS,
-    MOST_SECOND_BYTES, is_second_base, is_second_size, is_size, is_whole_blocks,
+    BLOCK, FIRST_TICK, LAST_BLOCK, LAST_TICK, MAX_BYTES, MAX_PRIORITY_BITS, MAX_SECOND_BYTES,
+    MIN_PRIORITY_BITS, is_second_base, is_second_size, is_size, is_whole_blocks,
 };
-use board::{MOST_SCRIPT_EVENTS, PLACES, region_count};
-use platform::exception::MOST_INTERRUPTS;
+use board::{MAX_SCRIPT_EVENTS, PLACES, region_count};
+use platform::exception::MAX_INTERRUPTS;
 use platform::map::RAM_BASE;
 use std::fmt;
 use std::fmt::Display;
@@ -81,28 +81,28 @@ impl Display for Takes {
         match *self {
             Takes::Integers(least, most) => write!(f, "an integer from {least} to {most}"),
             Takes::Blocks => write!(f, "a multiple of {BLOCK}, at least 0"),
-            Takes::RamSizes => write!(f, "a multiple of {BLOCK} from {BLOCK} to {MOST_BYTES}"),
+            Takes::RamSizes => write!(f, "a multiple of {BLOCK} from {BLOCK} to {MAX_BYTES}"),
             Takes::FlashSizes => write!(
                 f,
-                "a multiple of {BLOCK} from {BLOCK} to {MOST_BYTES}, with flash_base + flash_size \
+                "a multiple of {BLOCK} from {BLOCK} to {MAX_BYTES}, with flash_base + flash_size \
                  at most {RAM_BASE}"
             ),
             Takes::SecondBases => write!(f, "a multiple of {BLOCK} from 0 to {LAST_BLOCK}"),
             Takes::SecondSizes => write!(
                 f,
-                "a multiple of {BLOCK} from {BLOCK} to {MOST_SECOND_BYTES}"
+                "a multiple of {BLOCK} from {BLOCK} to {MAX_SECOND_BYTES}"
             ),
             Takes::DeviceBases => write!(f, "a multiple of 4 from 0 to {LAST_WORD}"),
             Takes::DeviceSizes => write!(
                 f,
-                "a multiple of 4 from 4 to {MOST_DEVICE_BYTES} (4 where the key is missing)"
+                "a multiple of 4 from 4 to {MAX_DEVICE_BYTES} (4 where the key is missing)"
             ),
             Takes::Bits => write!(f, "an integer from 0 to {}", u32::MAX),
             Takes::Places => write!(f, "an integer from 0 to {}", PLACES - 1),
             Takes::Regions => write!(f, "8 or 16 (8 where the key is missing)"),
             Takes::Tables => write!(
                 f,
-                "a list of at most {MOST_SCRIPT_EVENTS} tables, each written as [[event]]"
+                "a list of at most {MAX_SCRIPT_EVENTS} tables, each written as [[event]]"
             ),
             Takes::Words(words) => write!(f, "{words}"),
         }
@@ -130,12 +130,12 @@ pub const RAM_SIZE: Key = Key {
 
 pub const PRIORITY_BITS: Key = Key {
     name: "priority_bits",
-    takes: Takes::Integers(LEAST_PRIORITY_BITS, MOST_PRIORITY_BITS),
+    takes: Takes::Integers(MIN_PRIORITY_BITS, MAX_PRIORITY_BITS),
 };
 
 pub const LINES: Key = Key {
     name: "lines",
-    takes: Takes::Integers(0, MOST_INTERRUPTS as u64),
+    takes: Takes::Integers(0, MAX_INTERRUPTS as u64),
 };
 
 pub const REGIONS: Key = Key {

@@ -2,7 +2,7 @@
 
 use crate::keys::Key;
 use crate::text::write_key;
-use board::device_ranges::{MOST_BYTES_OF_DEVICES, PPB_BASE, PPB_SIZE, SPACE};
+use board::device_ranges::{MAX_BYTES_OF_DEVICES, PPB_BASE, PPB_SIZE, SPACE};
 use messages::Quoted;
 use platform::map::RAM_BASE;
 use std::io;
@@ -136,7 +136,7 @@ fn write_fault<W: Write>(out: &mut W, fault: DeviceFault) -> io::Result<()> {
         DeviceFault::Bytes(before, size) => writeln!(
             out,
             "size is {size}, and the devices before it have {before} bytes: the devices of a board have \
-             {MOST_BYTES_OF_DEVICES} at most"
+             {MAX_BYTES_OF_DEVICES} at most"
         ),
         DeviceFault::Bits(ones, zeros) => writeln!(
             out,

@@ -14,7 +14,7 @@ use crate::problem::{Part, PartProblem, Problem};
 use crate::settings::{check_number, unknown};
 use board::keys::SECOND_RAM_KEYS;
 use board::ranges::is_second_ram;
-use board::{Layout, MOST_SECOND_RAMS, find};
+use board::{Layout, MAX_SECOND_RAMS, find};
 use toml::Table;
 
 /// Returns the first problem of the second RAM of a document, on a board with this layout.
@@ -31,7 +31,7 @@ pub fn second_ram_problem<'a>(document: &'a Table, layout: &Layout) -> Option<Pa
     if let Some(found) = tables_problem(values, RAM_TABLE) {
         return Some(of_board(found.problem));
     }
-    if values.len() > MOST_SECOND_RAMS {
+    if values.len() > MAX_SECOND_RAMS {
         return Some(of_board(Problem::Count(RAM, values.len())));
     }
     let [value, ..] = values else {

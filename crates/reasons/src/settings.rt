@@ -8,7 +8,8 @@ ghost use Rattle.board.specs.Texts.{board_in, numbers_in};
 ghost use Rattle.board.specs.Values.{has_only, number, number_or, where_ok};
 ghost use Rattle.platform.specs.Boards.{default_regions, is_flash, is_region_count, is_size};
 ghost use Rattle.reasons.specs.Events.{script_of};
-ghost use Rattle.reasons.specs.Problems.{EndsTooHigh, Explained, Finds, Names, NamesFirst, Reads, Shows, key_of};
+ghost use Rattle.reasons.specs.Problems.{EndsTooHigh, Explained, Finds, NamesKey, NamesFirst, ReadsKey, ShowsKey};
+ghost use Rattle.reasons.specs.Problems.{key_of};
 ghost use Rattle.reasons.specs.Problems.{lines_of, takes};
 
 use crate::device_tables::devices_problem;
@@ -24,7 +25,7 @@ use board::{
     DEFAULT_REGIONS, Device, Layout, devices_at, find, layout_of, number, with_second_ram,
 };
 use platform::error::BoardError;
-use platform::exception::MOST_INTERRUPTS;
+use platform::exception::MAX_INTERRUPTS;
 use std::alloc::Global;
 use std::io::Write;
 use std::{io, str};
@@ -108,7 +109,8 @@ fn document_problem(document: &Table) -> Option<PartProblem<'_>>
     }
 }
 
-/// Returns the first problem of the script of a board with this layout and these devices, as one of a part of the board.
+/// Returns the first problem of the script of a board with this layout and these devices, as one of a part of the
+/// board.
 fn script_part<'a>(
     document: &'a Table,
     layout: &Layout,
@@ -188,7 +190,7 @@ fn position(file: &[u8], at: usize) -> (usize, usize) {
 /// Returns the whole number at a key with its value, or what is wrong with it.
 #[tactic(auto, using(crate::proofs::Numbers::below_zero, crate::proofs::Numbers::no_integer))]
 fn whole_number<'a>(table: &'a Table, key: Key) -> Result<(u64, &'a Value), Problem<'a>>
-    ensures read { Reads key result (number (get_member key.name.now (table_view table.now))) }
+    ensures read { ReadsKey key result (number (get_member key.name.now (table_view table.now))) }
     ensures small { IfOk result (λ found. found.0 < 2 ^ 63) }
 {
     let Some(value) = find(table, key.name) else {
@@ -206,7 +208,7 @@ fn whole_number<'a>(table: &'a Table, key: Key) -> Result<(u64, &'a Value), Prob
 fn check_numbers(document: &Table) -> Result<u64, Problem<'_>>
     ensures read { Explained result (lines_of (numbers_in (table_view document.now))) }
     ensures names { IfErr result (λ problem. NamesFirst (table_view document.now) problem) }
-    ensures few { IfOk result (λ lines. lines ≤ MOST_INTERRUPTS) }
+    ensures few { IfOk result (λ lines. lines ≤ MAX_INTERRUPTS) }
 {
     let base = check_number(document, FLASH_BASE)?;
     check_flash_size(document, base)?;
@@ -221,8 +223,8 @@ fn check_numbers(document: &Table) -> Result<u64, Problem<'_>>
 pub fn check_number<'a>(table: &'a Table, key: Key) -> Result<u64, Problem<'a>>
     ensures read { Explained result
         (where_ok (takes key.takes) (number (get_member key.name.now (table_view table.now)))) }
-    ensures names { IfErr result (λ problem. (name : List ℕ) (test : ℕ → Bool) → Shows name test key
-        → Names name test (key_of problem)) }
+    ensures names { IfErr result (λ problem. (name : List ℕ) (test : ℕ → Bool) → ShowsKey name test key
+        → NamesKey name test (key_of problem)) }
     ensures taken { IfOk result (λ n. takes key.takes n ≡ true) }
     ensures small { IfOk result (λ n. n < 2 ^ 63) }
 {
@@ -253,7 +255,7 @@ fn check_flash_size(document: &Table, base: u64) -> Result<u64, Problem<'_>>
     ensures read { Explained result
         (where_ok (is_flash base) (number (get_member (codes "flash_size") (table_view document.now)))) }
     ensures names { IfErr result
-        (λ problem. Names (codes "flash_size") is_size (key_of problem) ⊎ EndsTooHigh base problem) }
+        (λ problem. NamesKey (codes "flash_size") is_size (key_of problem) ⊎ EndsTooHigh base problem) }
 {
     let size = check_number(document, FLASH_SIZE)?;
     if !is_flash(base, size) {
@@ -267,7 +269,7 @@ fn check_regions(document: &Table) -> Result<u64, Problem<'_>>
     ensures read { Explained result
         (where_ok is_region_count
         (number_or default_regions (get_member (codes "regions") (table_view document.now)))) }
-    ensures names { IfErr result (λ problem. Names (codes "regions") is_region_count (key_of problem)) }
+    ensures names { IfErr result (λ problem. NamesKey (codes "regions") is_region_count (key_of problem)) }
 {
     if find(document, REGIONS.name).is_none() {
         return Ok(DEFAULT_REGIONS);

@@ -2,7 +2,7 @@
 
 ghost use Rattle.std.specs.Prelude.{◌≡◌, ◌+◌, ◌*◌, ◌≤◌, ◌<◌, length};
 ghost use Rattle.elf.specs.Segment.{segment_of};
-ghost use Rattle.reasons.specs.Segments.{IsFirstOf, IsUnplaced, Picks, header_at, segment_if};
+ghost use Rattle.reasons.specs.Segments.{IsFirstSegmentWith, IsUnplaced, Picks, header_at, segment_if};
 ghost use Rattle.platform.specs.Boards.{numbers_of};
 ghost use Rattle.platform.specs.Images.{is_placed};
 ghost use Rattle.platform.specs.Boards.{blank, blank_second};
@@ -59,7 +59,7 @@ fn first_unplaced<'a>(
 ) -> Option<NumberedSegment<'a>>
     requires end { table.end ≡ table.place + PROGRAM_HEADER_SIZE * table.count }
     requires within { table.end ≤ length file.now }
-    ensures { IsFirstOf (λ k. segment_if file.now (header_at table k))
+    ensures { IsFirstSegmentWith (λ k. segment_if file.now (header_at table k))
         (λ k. IsUnplaced (blank (numbers_of layout.now)) (segment_if file.now (header_at table k))) table.count
         result }
 {

@@ -1,7 +1,8 @@
 -- One access, and a list of them (ARM DDI 0403, MemA[]; what the bus takes is the profile's). The rule decides first,
 -- then the bus carries it out or refuses it. An unaligned access of MemU[] is a list of byte accesses, which
 -- `transfer` of LoadStore makes.
-use Rattle.std.specs.Prelude.{ℕ, Bool, not, ◌&&◌, ◌||◌, if◌then◌else◌, List, [], ◌∷◌, ◌++◌, Option, Some, None, Result, Ok, Err}
+use Rattle.std.specs.Prelude.{ℕ, Bool, not, ◌&&◌, ◌||◌, if◌then◌else◌, List, [], ◌∷◌, ◌++◌, Option, Some, None, Result}
+use Rattle.std.specs.Prelude.{Ok, Err}
 use Rattle.devices.specs.Laws.{have}
 use Rattle.instruction_set.specs.Sizes.{bytes_in}
 use Rattle.platform.specs.declared.access.Access.{Access}
@@ -22,7 +23,7 @@ use Rattle.platform.specs.Memory.{is_in_memory}
 use Rattle.platform.specs.Outcomes.{Outcome, done, unchanged, within}
 use Rattle.platform.specs.Priorities.{is_below_zero}
 use Rattle.platform.specs.Rules.{decision_of}
-use Rattle.platform.specs.Space.{space_access}
+use Rattle.platform.specs.Space.{memory_access}
 use Rattle.reference.specs.State.{Bus}
 use Rattle.platform.specs.System.{device_access, system_access}
 
@@ -42,7 +43,7 @@ carried_out exception b rule q =
     then within (λ system. record b { system = system }) (system_access exception b.system rule q)
     else if is_to_device b q.access
     then within (λ system. record b { system = system }) (device_access b.system rule q)
-    else within (λ memory. record b { memory = memory }) (space_access b.memory b.system.time.ticks rule q)
+    else within (λ memory. record b { memory = memory }) (memory_access b.memory b.system.time.ticks rule q)
 
 -- ---- one access
 

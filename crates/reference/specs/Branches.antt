@@ -19,14 +19,14 @@ use Rattle.reference.specs.declared.ending.Ending.TheVariants.{Next}
 use Rattle.reference.specs.declared.failure.Failure.{Failure}
 use Rattle.reference.specs.declared.failure.Traps.{Traps}
 use Rattle.reference.specs.LoadStore.{transfer, joined}
-use Rattle.reference.specs.ProgramCounter.{Finished, moves_on, branches, branches_by, exchanges}
+use Rattle.reference.specs.ProgramCounter.{Finished, advances, branches, branches_by, exchanges}
 
 -- ---- branches
 
 -- B with a condition of its own
 abbrev pub conditional_branch : InstructionLength → ConditionalBranch → Registers → Finished
 conditional_branch length o r =
-    if condition_holds o.condition r.flags then branches_by o.offset r else moves_on length r
+    if condition_holds o.condition r.flags then branches_by o.offset r else advances length r
 
 -- LR = next_instr_addr<31:1> : '1'
 abbrev pub with_link : InstructionLength → Registers → Registers
@@ -45,7 +45,7 @@ takes_branch o r = if o.nonzero then not (register r o.register == 0) else regis
 
 -- CBZ and CBNZ
 abbrev pub compare_and_branch : InstructionLength → CompareAndBranch → Registers → Finished
-compare_and_branch length o r = if takes_branch o r then branches_by o.offset r else moves_on length r
+compare_and_branch length o r = if takes_branch o r then branches_by o.offset r else advances length r
 
 -- the entry of a table: the byte at R[n] + R[m], or the halfword at R[n] + LSL(R[m], 1)
 abbrev pub entry_address : TableBranch → Registers → ℕ

@@ -15,11 +15,11 @@ use Rattle.platform.specs.declared.access.Request.{Request}
 use Rattle.reference.specs.declared.failure.Failure.{Failure}
 use Rattle.reference.specs.declared.failure.Failure.TheVariants.{Usage, Stop}
 use Rattle.reference.specs.declared.failure.UsageFault.TheVariants.{Unaligned}
-use Rattle.platform.specs.declared.stop.LeftOut.TheVariants.{ExclusiveDevice}
+use Rattle.platform.specs.declared.stop.Unsupported.TheVariants.{ExclusiveDevice}
 use Rattle.platform.specs.declared.stop.Stop.TheVariants.{OutOfProfile}
 use Rattle.reference.specs.LoadStore.{is_aligned, joined, request}
 use Rattle.platform.specs.Map.{has_side_effects}
-use Rattle.reference.specs.ProgramCounter.{Finished, moves_on}
+use Rattle.reference.specs.ProgramCounter.{Finished, advances}
 
 -- ---- accesses
 
@@ -63,7 +63,7 @@ store_status passed = if passed then 0 else 1
 -- what such an instruction does with the values read
 unfoldable pub exclusive_effect : InstructionLength → Exclusive → Registers → List ℕ → Finished
 exclusive_effect length (Load o) r values =
-    moves_on length (with_register (with_mark r (exclusive_address o.base o.offset r) o.size) o.target (joined values))
+    advances length (with_register (with_mark r (exclusive_address o.base o.offset r) o.size) o.target (joined values))
 exclusive_effect length (Store o) r values =
-    moves_on length (with_register (without_mark r) o.status (store_status (passes o r)))
-exclusive_effect length Clear r values = moves_on length (without_mark r)
+    advances length (with_register (without_mark r) o.status (store_status (passes o r)))
+exclusive_effect length Clear r values = advances length (without_mark r)

@@ -25,7 +25,7 @@ use Rattle.platform.specs.declared.fault_status.TheConstants.{UNDEFINSTR, INVSTA
 use Rattle.platform.specs.declared.fault_status.TheConstants.{VECTTBL, FORCED}
 use Rattle.platform.specs.declared.stop.Stop.TheVariants as stop
 use Rattle.platform.specs.Priorities.{escalation, with_pending}
-use Rattle.reference.specs.ProgramCounter.{moves_on}
+use Rattle.reference.specs.ProgramCounter.{advances}
 use Rattle.reference.specs.State.{State, Stepped, with_registers, with_exceptions, with_system, stopped}
 use Rattle.platform.specs.Status.{Status, with_fault_bits, with_mmfar, with_bfar}
 
@@ -133,7 +133,7 @@ failed s events (failure.Stop why) = stopped s events why
 -- (profile)
 abbrev pub supervisor_called_by : State → List Event → Escalation → Stepped
 supervisor_called_by s events Itself =
-    record { state = pended (with_registers s (moves_on Short s.registers).registers) SV_CALL; events = events }
+    record { state = pended (with_registers s (advances Short s.registers).registers) SV_CALL; events = events }
 supervisor_called_by s events HardFault = forced s events
 supervisor_called_by s events Lockup = locked_up s events
 

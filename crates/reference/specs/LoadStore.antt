@@ -30,11 +30,11 @@ use Rattle.reference.specs.declared.failure.Failure.{Failure}
 use Rattle.reference.specs.declared.failure.Failure.TheVariants.{Usage, Stop}
 use Rattle.reference.specs.declared.failure.Traps.{Traps}
 use Rattle.reference.specs.declared.failure.UsageFault.TheVariants.{Unaligned}
-use Rattle.platform.specs.declared.stop.LeftOut.TheVariants.{UnalignedDevice}
+use Rattle.platform.specs.declared.stop.Unsupported.TheVariants.{UnalignedDevice}
 use Rattle.platform.specs.declared.stop.Stop.TheVariants.{OutOfProfile, Unpredictable}
 use Rattle.platform.specs.Map.{has_side_effects}
 use Rattle.platform.specs.Memory.{bytes_of}
-use Rattle.reference.specs.ProgramCounter.{Finished, moves_on, loads_into}
+use Rattle.reference.specs.ProgramCounter.{Finished, advances, loads_into}
 
 -- ---- addresses
 
@@ -149,5 +149,5 @@ load_store_effect length (LoadImmediate o) r values =
     loads_into length o.target (loaded_value o.form values) (with_base o.address r)
 load_store_effect length (LoadRegister o) r values = loads_into length o.target (loaded_value o.form values) r
 load_store_effect length (LoadLiteral o) r values = loads_into length o.target (loaded_value o.form values) r
-load_store_effect length (StoreImmediate o) r values = moves_on length (with_base o.address r)
-load_store_effect length (StoreRegister o) r values = moves_on length r
+load_store_effect length (StoreImmediate o) r values = advances length (with_base o.address r)
+load_store_effect length (StoreRegister o) r values = advances length r

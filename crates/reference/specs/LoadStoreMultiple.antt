@@ -23,7 +23,7 @@ use Rattle.reference.specs.declared.failure.UsageFault.TheVariants.{Unaligned}
 use Rattle.platform.specs.declared.stop.Stop.TheVariants.{Unpredictable}
 use Rattle.platform.specs.Kinds.{is_store}
 use Rattle.reference.specs.LoadStore.{request, is_aligned, immediate_address, with_base}
-use Rattle.reference.specs.ProgramCounter.{Finished, exchanges, moves_on}
+use Rattle.reference.specs.ProgramCounter.{Finished, exchanges, advances}
 
 -- ---- lists
 
@@ -101,7 +101,7 @@ unfoldable pub load_multiple : InstructionLength → LoadMultiple → List ℕ �
 load_multiple bytes o values r =
     if is_bit o.list 15
     then exchanges (slice_index values (length (registers_below 15 o.list))) (loaded_below_pc o values r)
-    else moves_on bytes (loaded_below_pc o values r)
+    else advances bytes (loaded_below_pc o values r)
 
 -- ---- the family
 
@@ -121,10 +121,10 @@ load_store_multiple_requests (family.StoreMultiple o) r =
 -- what such an instruction does with the values read
 unfoldable pub load_store_multiple_effect : InstructionLength → LoadStoreMultiple → Registers → List ℕ → Finished
 load_store_multiple_effect length (family.LoadDual o) r values =
-    moves_on length (loaded (o.first ∷ o.second ∷ []) values (with_base o.address r))
+    advances length (loaded (o.first ∷ o.second ∷ []) values (with_base o.address r))
 load_store_multiple_effect length (family.LoadDualLiteral o) r values =
-    moves_on length (loaded (o.first ∷ o.second ∷ []) values r)
-load_store_multiple_effect length (family.StoreDual o) r values = moves_on length (with_base o.address r)
+    advances length (loaded (o.first ∷ o.second ∷ []) values r)
+load_store_multiple_effect length (family.StoreDual o) r values = advances length (with_base o.address r)
 load_store_multiple_effect length (family.LoadMultiple o) r values = load_multiple length o values r
 load_store_multiple_effect length (family.StoreMultiple o) r values =
-    moves_on length (with_moved_base o.write_back o.base o.order o.list r)
+    advances length (with_moved_base o.write_back o.base o.order o.list r)

@@ -3,8 +3,8 @@
 -- whose accesses and ends are here. This chapter fixes the order: the position in an IT block, then the condition, then
 -- the family.
 use Rattle.std.specs.Prelude.{ℕ, Bool, false, not, ◌&&◌, ◌||◌, if◌then◌else◌, List, [], Result, Ok, Err}
-use Rattle.instruction_set.specs.declared.instruction.BlockPlace.{BlockPlace}
-use Rattle.instruction_set.specs.declared.instruction.BlockPlace.TheVariants.{Anywhere, LastOnly, Never}
+use Rattle.instruction_set.specs.declared.instruction.ItPosition.{ItPosition}
+use Rattle.instruction_set.specs.declared.instruction.ItPosition.TheVariants.{Anywhere, LastOnly, Never}
 use Rattle.instruction_set.specs.declared.instruction.CodedInstruction.{CodedInstruction}
 use Rattle.instruction_set.specs.declared.data_processing.DataProcessing.{DataProcessing as DataProcessingForm}
 use Rattle.instruction_set.specs.declared.instruction.Instruction.{Instruction}
@@ -26,13 +26,13 @@ use Rattle.reference.specs.Branches.{branch_requests, branch_effect}
 use Rattle.reference.specs.Exclusives.{exclusive_requests, exclusive_effect}
 use Rattle.reference.specs.LoadStore.{load_store_requests, load_store_effect}
 use Rattle.reference.specs.LoadStoreMultiple.{load_store_multiple_requests, load_store_multiple_effect}
-use Rattle.reference.specs.ProgramCounter.{Finished, moves_on, branches}
+use Rattle.reference.specs.ProgramCounter.{Finished, advances, branches}
 use Rattle.reference.specs.SystemInstructions.{has_no_condition, system_requests, system_effect}
 
 -- ---- before an instruction
 
 -- whether an instruction isn't allowed at its position in an IT block
-abbrev pub is_misplaced : BlockPlace → ℕ → Bool
+abbrev pub is_misplaced : ItPosition → ℕ → Bool
 is_misplaced Anywhere it_state = false
 is_misplaced LastOnly it_state = in_it_block it_state && not (last_in_it_block it_state)
 is_misplaced Never it_state = in_it_block it_state
@@ -59,7 +59,7 @@ data_processing_requests traps i r =
 
 -- what an instruction of this length does
 abbrev pub data_processing_effect : InstructionLength → DataProcessingForm → Registers → Finished
-data_processing_effect length i r = if writes_pc i then branches (processed i r) else moves_on length (processed i r)
+data_processing_effect length i r = if writes_pc i then branches (processed i r) else advances length (processed i r)
 
 -- ---- the accesses of an instruction
 
@@ -74,8 +74,8 @@ requests_of traps (System i) r = system_requests i
 
 -- the accesses of an instruction, after the checks in their order: a stop where its position in the IT block isn't
 -- allowed, else none where its condition fails, else those of its family
-unfoldable pub wants : Traps → CodedInstruction → Registers → Result (List Request) Failure
-wants traps i r =
+unfoldable pub plan : Traps → CodedInstruction → Registers → Result (List Request) Failure
+plan traps i r =
     if is_misplaced i.place r.it_state then Err (Stop (Unpredictable ItBlock))
     else if is_carried_out i.instruction r then requests_of traps i.instruction r
     else Ok []
@@ -97,4 +97,4 @@ unfoldable pub result_of : CodedInstruction → Registers → List ℕ → Finis
 result_of i r values =
     if is_carried_out i.instruction r
     then effect i.length i.instruction r values
-    else moves_on i.length r
+    else advances i.length r

@@ -20,8 +20,8 @@ abbrev pub advanced : Registers → Registers
 advanced r = record r { it_state = it_advance r.it_state }
 
 -- the PC goes on by the length of the instruction
-abbrev pub moves_on : InstructionLength → Registers → Finished
-moves_on length r =
+abbrev pub advances : InstructionLength → Registers → Finished
+advances length r =
     record { registers = record (advanced r) { pc = word_sum r.pc (instruction_bytes length) }; ending = Next }
 
 -- the PC was written
@@ -47,4 +47,4 @@ exchanges v r =
 
 -- R[t] = value, which for the PC is LoadWritePC(value)
 abbrev pub loads_into : InstructionLength → ℕ → ℕ → Registers → Finished
-loads_into length t value r = if t == 15 then exchanges value r else moves_on length (with_register r t value)
+loads_into length t value r = if t == 15 then exchanges value r else advances length (with_register r t value)

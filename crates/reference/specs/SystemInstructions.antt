@@ -11,7 +11,7 @@ use Rattle.platform.specs.declared.access.Request.{Request}
 use Rattle.reference.specs.declared.ending.Ending.{Ending}
 use Rattle.reference.specs.declared.ending.Ending.TheVariants as ending
 use Rattle.reference.specs.declared.failure.Failure.{Failure}
-use Rattle.reference.specs.ProgramCounter.{Finished, moves_on}
+use Rattle.reference.specs.ProgramCounter.{Finished, advances}
 
 -- whether an instruction has no condition, not even that of an IT block: BKPT
 abbrev pub has_no_condition : System → Bool
@@ -44,15 +44,15 @@ hint_ending hint.Barrier = ending.Next
 hint_ending hint.Unallocated = ending.Next
 
 -- the PC moves past the instruction, which ends with e
-abbrev pub moves_on_and : Ending → InstructionLength → Registers → Finished
-moves_on_and e length r = record (moves_on length r) { ending = e }
+abbrev pub advances_and : Ending → InstructionLength → Registers → Finished
+advances_and e length r = record (advances length r) { ending = e }
 
 -- SVC and BKPT leave the PC where it is; `supervisor_called` moves it past SVC where SVCall becomes pending
 unfoldable pub system_effect : InstructionLength → System → Registers → Finished
-system_effect length (system.ChangeProcessorState o) r = moves_on_and (ending.ChangeState o) length r
+system_effect length (system.ChangeProcessorState o) r = advances_and (ending.ChangeState o) length r
 system_effect length (system.MoveToSpecial o) r =
-    moves_on_and (ending.WriteSpecial o.special (register r o.source)) length r
-system_effect length (system.MoveFromSpecial o) r = moves_on_and (ending.ReadSpecial o) length r
-system_effect length (system.Hint hint) r = moves_on_and (hint_ending hint) length r
+    advances_and (ending.WriteSpecial o.special (register r o.source)) length r
+system_effect length (system.MoveFromSpecial o) r = advances_and (ending.ReadSpecial o) length r
+system_effect length (system.Hint hint) r = advances_and (hint_ending hint) length r
 system_effect length (system.SupervisorCall number) r = record { registers = r; ending = ending.SupervisorCall number }
 system_effect length (system.Breakpoint number) r = record { registers = r; ending = ending.Breakpoint number }

@@ -1,10 +1,10 @@
 //! Lists of accesses, and of what they read.
 
 use bounded::Bounded;
-use platform::access::{MOST_REQUESTS, Request};
+use platform::access::{MAX_REQUESTS, Request};
 
 /// The accesses of an instruction, or of a frame, in their order.
-pub type Requests = Bounded<Request, MOST_REQUESTS>;
+pub type Requests = Bounded<Request, MAX_REQUESTS>;
 
 /// The values that an instruction read, in the order of its accesses.
-pub type Values = Bounded<u32, MOST_REQUESTS>;
+pub type Values = Bounded<u32, MAX_REQUESTS>;

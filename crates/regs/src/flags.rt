@@ -9,7 +9,6 @@ ghost use Rattle.instruction_set.specs.Results.{logical_flags, sum_flags};
 use crate::{Flags, Regs, weighed};
 
 impl Regs {
-    /// Returns the flags of APSR.
     #[inline]
     pub fn flags(&self) -> Flags
         ensures { result ≡ self.now.flags }

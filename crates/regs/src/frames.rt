@@ -178,14 +178,12 @@ fn above_frame(base: u32, xpsr: u32) -> u32
     if xpsr >> 9 & 1 == 1 { above | 4 } else { above }
 }
 
-/// Returns EPSR.T of an xPSR.
 fn thumb_of(xpsr: u32) -> bool
     ensures { result ≡ is_bit xpsr 24 }
 {
     xpsr >> 24 & 1 == 1
 }
 
-/// Returns EPSR.IT of an xPSR.
 fn it_of(xpsr: u32) -> u8
     ensures { result ≡ spec.it_of xpsr }
 {

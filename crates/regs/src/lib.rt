@@ -115,7 +115,6 @@ impl Regs {
         }
     }
 
-    /// Returns a copy.
     pub fn copied(&self) -> Self
         ensures { result ≡ self.now }
     {
@@ -224,7 +223,7 @@ impl Regs {
 
     /// Advances the PC past an instruction of this length.
     #[inline]
-    pub fn go_on(&mut self, length: u32)
+    pub fn advance_pc(&mut self, length: u32)
         ensures { self.new ≡ record self.old { pc = word_sum self.old.pc length } }
     {
         self.pc = self.pc.wrapping_add(length);

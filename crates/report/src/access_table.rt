@@ -7,13 +7,13 @@ use platform::board::Layout;
 use std::alloc::{AllocError, Global};
 
 /// How many worlds have a column at most.
-pub const MOST_COLUMNS: usize = 8;
+pub const MAX_COLUMNS: usize = 8;
 
 /// How many rows the table has at most.
-pub const MOST_ROWS: usize = 32;
+pub const MAX_ROWS: usize = 32;
 
 /// How many sentences there are at most of bytes that one world shares with another.
-pub const MOST_SHARES: usize = 64;
+pub const MAX_SHARES: usize = 64;
 
 /// Neighbouring addresses of a place in which no right of a world that has a column changes.
 #[derive(Clone, Copy)]
@@ -22,7 +22,7 @@ pub struct AccessRow {
     pub first: u32,
     pub last: u32,
     /// What each of these worlds may do there, in the order of their columns.
-    pub rights: [Rights; MOST_COLUMNS],
+    pub rights: [Rights; MAX_COLUMNS],
 }
 
 /// Bytes that one world may write and another may read or execute.
@@ -111,7 +111,7 @@ impl AccessTable {
 
     /// Adds a row, or counts it where there are as many as are shown.
     fn add_row(&mut self, row: AccessRow) -> Result<(), AllocError> {
-        if self.rows.len() < MOST_ROWS {
+        if self.rows.len() < MAX_ROWS {
             self.rows.push(row)?;
         } else {
             self.other_rows = self.other_rows.saturating_add(1);
@@ -177,7 +177,7 @@ impl AccessTable {
 
     /// Adds a span of bytes that worlds share, or counts it where there are as many as are shown.
     fn add_share(&mut self, share: Share) -> Result<(), AllocError> {
-        if self.shares.len() < MOST_SHARES {
+        if self.shares.len() < MAX_SHARES {
             self.shares.push(share)?;
         } else {
             self.other_shares = self.other_shares.saturating_add(1);
@@ -200,7 +200,7 @@ impl AccessRow {
             place,
             first,
             last,
-            rights: [NO_RIGHTS; MOST_COLUMNS],
+            rights: [NO_RIGHTS; MAX_COLUMNS],
         };
         'columns: for (column, world) in columns.iter().enumerate() {
             let interval = Interval::at(
@@ -212,7 +212,7 @@ impl AccessRow {
                 },
             );
             row.last = interval.last;
-            if column < MOST_COLUMNS {
+            if column < MAX_COLUMNS {
                 row.rights[column] = interval.rights;
             }
         }
@@ -221,7 +221,7 @@ impl AccessRow {
 
     /// Returns whether each world has the same rights in another row of the place.
     fn is_alike(&self, other: &AccessRow) -> bool {
-        'columns: for column in 0..MOST_COLUMNS {
+        'columns: for column in 0..MAX_COLUMNS {
             if !self.rights[column].is_same(other.rights[column]) {
                 return false;
             }
@@ -232,8 +232,8 @@ impl AccessRow {
     /// Returns whether bytes of the row are shared: the world of one column may write them, and that of another may
     /// read or execute them.
     pub fn is_shared(&self, writer: usize, reader: usize) -> bool
-        requires writer { writer < MOST_COLUMNS }
-        requires reader { reader < MOST_COLUMNS }
+        requires writer { writer < MAX_COLUMNS }
+        requires reader { reader < MAX_COLUMNS }
     {
         let from = self.rights[writer];
         let to = self.rights[reader];
@@ -258,5 +258,5 @@ fn is_ram(place: Place) -> bool {
 
 /// Returns the worlds that have a column: the first ones.
 pub fn columns_of(rows: &[WorldSteps]) -> &[WorldSteps] {
-    &rows[..rows.len().min(MOST_COLUMNS)]
+    &rows[..rows.len().min(MAX_COLUMNS)]
 }

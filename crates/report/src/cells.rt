@@ -2,7 +2,7 @@
 
 use machine::{Fast, Kind};
 use std::fmt;
-use survey::{Cells, MOST_CELLS, Touch};
+use survey::{Cells, MAX_CELLS, Touch};
 
 /// How many cells a row of the drawing has.
 pub const CELLS_OF_ROW: usize = 64;
@@ -11,12 +11,12 @@ pub const CELLS_OF_ROW: usize = 64;
 pub fn cells_in(cells: &Cells) -> usize {
     let (_, size) = cells.span();
     let count = size.checked_div(cells.cell_bytes()).unwrap_or(0);
-    (count as usize).min(MOST_CELLS)
+    (count as usize).min(MAX_CELLS)
 }
 
 /// Returns whether a cell was touched so by code of a privilege.
 fn is_touched(cells: &Cells, privileged: bool, touch: Touch, cell: usize) -> bool {
-    cell < MOST_CELLS && cells.is_marked(privileged, touch, cell)
+    cell < MAX_CELLS && cells.is_marked(privileged, touch, cell)
 }
 
 /// Returns whether an access in a cell was refused.

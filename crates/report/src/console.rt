@@ -7,8 +7,9 @@ use std::io;
 use std::io::Write;
 
 const CAPTION: &str =
-    "The bytes that the program stored to OUT, as UTF-8. A byte that is no part of a character, and a \
-control character other than tab and line feed, is shown as <code>\\x</code> and two hexadecimal digits.";
+    "The bytes that the program stored to OUT, or to a device that is a console, as UTF-8. A byte that is no part of a \
+character, and a control character other than tab and line feed, is shown as <code>\\x</code> and two hexadecimal \
+digits.";
 
 /// Writes the part.
 pub fn write_console<W: Write>(out: &mut W, report: &Report<'_>) -> io::Result<()> {

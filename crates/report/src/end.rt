@@ -10,7 +10,7 @@ use crate::words::{ExceptionName, RuleWord};
 use machine::{Fast, Kind, RegValues, Rule, StatusRegister};
 use platform::exception::EXCEPTIONS;
 use platform::fault_status::{BFARVALID, MMARVALID};
-use platform::mpu::MOST_REGIONS;
+use platform::mpu::MAX_REGIONS;
 use std::io::Write;
 use std::{fmt, io};
 use symbols::Symbols;
@@ -159,7 +159,7 @@ fn write_regions<W: Write>(out: &mut W, machine: &Fast, symbols: &Symbols<'_>) -
 /// Returns how many regions are enabled.
 fn regions_on(machine: &Fast) -> u8 {
     let mut count = 0u8;
-    'regions: for number in 0..MOST_REGIONS {
+    'regions: for number in 0..MAX_REGIONS {
         if let Some((base, attributes)) = machine.region(number) {
             let words = RegionWords { base, attributes };
             count = count.saturating_add(u8::from(words.is_enabled()));
@@ -177,7 +177,7 @@ fn write_table<W: Write>(out: &mut W, machine: &Fast, symbols: &Symbols<'_>) -> 
          <th class='p' scope='col'>privileged may</th><th scope='col'>fetches</th>\
          <th scope='col'>subregions off</th></tr></thead>\n<tbody>"
     )?;
-    'regions: for number in 0..MOST_REGIONS {
+    'regions: for number in 0..MAX_REGIONS {
         write_region(out, number, machine.region(number), symbols)?;
     }
     writeln!(out, "</tbody></table></div>")
@@ -209,7 +209,7 @@ fn write_region<W: Write>(
 /// Writes the names of the regions that are off.
 fn write_off<W: Write>(out: &mut W, machine: &Fast) -> io::Result<()> {
     let mut names = Names::new();
-    'regions: for number in 0..MOST_REGIONS {
+    'regions: for number in 0..MAX_REGIONS {
         if let Some((base, attributes)) = machine.region(number) {
             let words = RegionWords { base, attributes };
             names.write_if(out, !words.is_enabled(), RuleWord(Rule::Region(number)))?;

@@ -4,7 +4,7 @@ use messages::visible::visible;
 use std::{fmt, str};
 
 /// How many characters of a text are shown at most.
-const MOST_CHARACTERS: usize = 96;
+const MAX_CHARACTERS: usize = 96;
 
 /// A text from outside: what HTML acts on is written as a character reference, and what a display hides or
 /// acts on as messages have it, as `\u202E`. After 96 characters it is cut, and ends in `..`.
@@ -14,7 +14,7 @@ pub struct Escaped<'a>(pub &'a str);
 impl fmt::Display for Escaped<'_> {
     fn fmt<W: fmt::Write>(&self, f: &mut fmt::Formatter<W>) -> fmt::Result {
         'characters: for (place, character) in self.0.chars().enumerate() {
-            if place == MOST_CHARACTERS {
+            if place == MAX_CHARACTERS {
                 return write!(f, "..");
             }
             write_character(f, character)?;

@@ -7,7 +7,7 @@ use crate::rules::{OUTCOMES, write_outcome};
 use crate::settings::{RegionWords, SubregionsOff};
 use crate::words::{KINDS, kind_word, privilege_letter};
 use machine::Kind;
-use platform::mpu::MOST_REGIONS;
+use platform::mpu::MAX_REGIONS;
 use std::io;
 use std::io::Write;
 use survey::{Setting, Settings};
@@ -41,7 +41,7 @@ fn write_table<W: Write>(
          <th class='u' scope='col'>unprivileged did</th><th class='p' scope='col'>privileged did</th>\
          </tr></thead>\n<tbody>"
     )?;
-    'regions: for number in 0..MOST_REGIONS {
+    'regions: for number in 0..MAX_REGIONS {
         write_region(out, settings, number, symbols)?;
     }
     writeln!(out, "</tbody></table></div>")?;

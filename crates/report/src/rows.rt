@@ -1,10 +1,10 @@
 //! Which rows of cells are drawn, and where: those that nothing touched are folded.
 
 use crate::cells::{CELLS_OF_ROW, cells_in, is_used};
-use survey::{Cells, MOST_CELLS};
+use survey::{Cells, MAX_CELLS};
 
 /// How many rows a memory has at most.
-const MOST_ROWS: usize = MOST_CELLS / CELLS_OF_ROW;
+const MAX_ROWS: usize = MAX_CELLS / CELLS_OF_ROW;
 
 /// How high a row of cells is, in units of the drawing.
 const ROW_HEIGHT: usize = 30;
@@ -17,7 +17,7 @@ const FOLD_HEIGHT: usize = 18;
 pub struct Rows {
     /// How many there are.
     pub count: usize,
-    drawn: [bool; MOST_ROWS],
+    drawn: [bool; MAX_ROWS],
 }
 
 impl Rows {
@@ -25,11 +25,11 @@ impl Rows {
     pub fn of(cells: &Cells) -> Self {
         let mut rows = Rows {
             count: cells_in(cells).div_ceil(CELLS_OF_ROW),
-            drawn: [false; MOST_ROWS],
+            drawn: [false; MAX_ROWS],
         };
         'cells: for cell in 0..cells_in(cells) {
             let row = cell / CELLS_OF_ROW;
-            if row < MOST_ROWS && is_used(cells, cell) {
+            if row < MAX_ROWS && is_used(cells, cell) {
                 rows.drawn[row] = true;
             }
         }
@@ -38,7 +38,7 @@ impl Rows {
 
     /// Returns whether a row is drawn.
     pub fn is_drawn(&self, row: usize) -> bool {
-        row < MOST_ROWS && self.drawn[row]
+        row < MAX_ROWS && self.drawn[row]
     }
 
     /// Returns whether a row is the first of rows that are folded into one line.

@@ -4,7 +4,7 @@ ghost use Rattle.std.specs.Prelude.{◌<◌};
 
 use machine::{Kind, LinePage, Rule};
 use platform::access::{Access, Cause, DecidedAccess};
-use platform::mpu::MOST_REGIONS;
+use platform::mpu::MAX_REGIONS;
 use std::{fmt, str};
 
 /// The kinds of access, in the order of the columns.
@@ -19,7 +19,7 @@ pub const KINDS: [Kind; 7] = [
 ];
 
 /// How many rows a table of the rules has.
-pub const RULE_ROWS: usize = MOST_REGIONS as usize + OTHER_RULES.len();
+pub const RULE_ROWS: usize = MAX_REGIONS as usize + OTHER_RULES.len();
 
 /// The rules that are no region, in the order of their rows, which follow those of the regions.
 const OTHER_RULES: [Rule; 7] = [
@@ -36,7 +36,7 @@ const OTHER_RULES: [Rule; 7] = [
 pub fn rule_of_row(row: usize) -> Rule
     requires { row < RULE_ROWS }
 {
-    match row.checked_sub(MOST_REGIONS as usize) {
+    match row.checked_sub(MAX_REGIONS as usize) {
         None => Rule::Region(row as u8),
         Some(other) => OTHER_RULES[other],
     }

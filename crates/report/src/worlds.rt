@@ -2,7 +2,7 @@
 
 ghost use Rattle.std.specs.Prelude.{◌≤◌, ◌<◌};
 
-use crate::access_table::{AccessRow, AccessTable, MOST_COLUMNS, Share, columns_of};
+use crate::access_table::{AccessRow, AccessTable, MAX_COLUMNS, Share, columns_of};
 use crate::names;
 use crate::numbers::{ByteCount, Thousands};
 use crate::page::{Part, write_part};
@@ -14,8 +14,8 @@ use symbols::Symbols;
 const CAPTION: &str =
     "A world is a setting of the MPU under which <span class='u'>unprivileged</span> code ran. \
 Each row says what each world may do with its addresses, used or not: read (<code>r</code>), write \
-(<code>w</code>), execute (<code>x</code>). <b>→ 2</b> is where the world may write what world 2 may read, and <b>← 1</b> where it \
-may read what world 1 may write; all of these are below the table.";
+(<code>w</code>), execute (<code>x</code>). <b>→ 2</b> is where the world may write what world 2 may read, and \
+<b>← 1</b> where it may read what world 1 may write; all of these are below the table.";
 
 /// The letters of rights, and `-` for each that isn't granted.
 #[derive(Clone, Copy)]
@@ -132,8 +132,8 @@ fn write_row<W: Write>(
         "<tr id='may-{place}' data-first='{first:08X}' data-last='{last:08X}'><th scope='row'>\
          <code>{first:08X}</code> to <code>{last:08X}</code> <small>{word}, {size}</small></th>"
     )?;
-    'columns: for column in 0..columns.min(MOST_COLUMNS) {
-        write_cell(out, row, column, columns.min(MOST_COLUMNS))?;
+    'columns: for column in 0..columns.min(MAX_COLUMNS) {
+        write_cell(out, row, column, columns.min(MAX_COLUMNS))?;
     }
     writeln!(out, "</tr>")
 }
@@ -145,8 +145,8 @@ fn write_cell<W: Write>(
     column: usize,
     columns: usize,
 ) -> io::Result<()>
-    requires column { column < MOST_COLUMNS }
-    requires columns { columns ≤ MOST_COLUMNS }
+    requires column { column < MAX_COLUMNS }
+    requires columns { columns ≤ MAX_COLUMNS }
 {
     let number = number_of(column);
     let rights = row.rights[column];

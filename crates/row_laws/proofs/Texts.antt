@@ -11,7 +11,7 @@ use Rattle.encodings.specs.Masks.{mask_of, value_of, masked}
 use Rattle.encodings.proofs.Masks.{bits_by_mask}
 use Rattle.instruction_set.specs.Patterns.{place_0, place_1, fits}
 use Rattle.instruction_set.specs.Rows.{Row, applies}
-use Rattle.row_laws.specs.Laws.{HavePlaces, AreApart, has_overlap, OverlapOnly, WinsOver, DoOverlap}
+use Rattle.row_laws.specs.Laws.{HavePlaces, AreDisjoint, has_overlap, OverlapOnly, WinsOver, DoOverlap}
 use Rattle.row_laws.specs.Overlaps.{Overlap}
 
 -- ---- two texts
@@ -133,7 +133,7 @@ settled one other e x f g =
       | inr there ↦ both_ways (applies other x) (yields_applies other one.places x there (fits_of one x f)) g
     ]
 
-pub all_apart : (rows : List Row) → of_pairs are_settled rows ≡ true → AreApart rows
+pub all_apart : (rows : List Row) → of_pairs are_settled rows ≡ true → AreDisjoint rows
 all_apart rows e =
     each_pair (λ one other. (x : ℕ) → applies one x ≡ true → applies other x ≡ true → ⊥) are_settled rows settled e
 

@@ -10,8 +10,8 @@ abbrev pub HavePlaces : ℕ → List Row → Type 0
 HavePlaces places rows = All (λ row. length row.places ≡ places) rows
 
 -- no number has two rows, so rows may be in any order
-abbrev pub AreApart : List Row → Type 0
-AreApart rows = AllPairs (λ one other. (x : ℕ) → applies one x ≡ true → applies other x ≡ true → ⊥) rows
+abbrev pub AreDisjoint : List Row → Type 0
+AreDisjoint rows = AllPairs (λ one other. (x : ℕ) → applies one x ≡ true → applies other x ≡ true → ⊥) rows
 
 -- whether the list says that the second row wins over the first
 abbrev pub has_overlap : List Overlap → Row → Row → Bool

@@ -3,7 +3,7 @@
 #![tactic(auto)]
 
 ghost use Rattle.instruction_set.specs.Decoding.{rows_of, short_tables, long_tables};
-ghost use Rattle.row_laws.specs.Laws.{HavePlaces, AreApart, OverlapOnly, DoOverlap};
+ghost use Rattle.row_laws.specs.Laws.{HavePlaces, AreDisjoint, OverlapOnly, DoOverlap};
 ghost use Rattle.row_laws.specs.Overlaps.{short_overlaps, long_overlaps};
 
 /// Each row of 16 bits has a place for each bit of a halfword, and each row of 32 bits one for each
@@ -15,8 +15,8 @@ pub fn rows_are_whole()
 
 /// No number has two rows.
 pub fn rows_are_apart()
-    ensures short { AreApart (rows_of short_tables) }
-    ensures long { AreApart (rows_of long_tables) }
+    ensures short { AreDisjoint (rows_of short_tables) }
+    ensures long { AreDisjoint (rows_of long_tables) }
 {}
 
 /// The texts of two rows fit one number exactly where the lists of overlaps say so, and the row

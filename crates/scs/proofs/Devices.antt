@@ -6,8 +6,10 @@ use Rattle.std.proofs.lemmas.Bool.{cond_both}
 use Rattle.std.proofs.lemmas.Bool.Decides.{nat_tests}
 use Rattle.devices.specs.declared.device.Poke.{Poke}
 use Rattle.devices.specs.declared.level.Level.{Level}
-use Rattle.devices.specs.Devices.{DeviceWords, Word, loaded, value_in, word_at as word_of}
+use Rattle.devices.specs.Devices.{DeviceWords, Word, loaded, position_from, value_in}
+use Rattle.devices.specs.Devices.{word_at as word_of}
 use Rattle.devices.specs.Laws.{have}
+use Rattle.devices.proofs.Positions.{first_has}
 use Rattle.devices.specs.Lines.{levels}
 use Rattle.devices.specs.Parts.{part}
 use Rattle.devices.specs.Pokes.{poked_all}
@@ -26,7 +28,7 @@ use Rattle.platform.specs.System.{on_interrupts, pokes_of, settled, time_passed,
 use Rattle.platform.specs.System.{with_pended}
 use Rattle.platform.specs.Time.{IsSetOf, events_at, is_high, pends, tick_pends, time_after_tick, with_events}
 use Rattle.platform.specs.Time.{with_signal}
-use Rattle.scs.specs.Levels.{are_pokes, seen}
+use Rattle.scs.specs.LineLevels.{are_pokes, seen}
 
 pub any_by_length : (ds : List DeviceWords) → not (length ds == 0) ≡ are_any ds
 any_by_length [] = refl
@@ -62,6 +64,19 @@ pub device_leaves : (s : System) (rule : Rule) (q : Request) → have s.devices 
 unfolding device_access
 device_leaves s rule q there =
     cond_both (is_store q.access.kind) _ _ (Keeps s) (λ e. tt) (λ e. load_keeps s rule q there)
+
+-- where the device is found by its number
+
+abbrev IsThere : System → Request → ℕ → Type 0
+IsThere s q at = position_from 0 s.devices q.access.address ≡ Some at
+
+pub load_keeps_at : (s : System) (at : ℕ) (rule : Rule) (q : Request) → IsThere s q at →
+    Keeps s (loaded_from_device s rule q)
+load_keeps_at s at rule q there = load_keeps s rule q (first_has s.devices q.access.address at there)
+
+pub device_leaves_at : (s : System) (at : ℕ) (rule : Rule) (q : Request) → IsThere s q at →
+    LeavesUnlessDone (device_access s rule q).performed s (device_access s rule q).after
+device_leaves_at s at rule q there = device_leaves s rule q (first_has s.devices q.access.address at there)
 
 -- ---- the pokes of a tick
 

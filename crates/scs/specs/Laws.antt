@@ -1,7 +1,7 @@
 -- What is always so of the System Control Space.
 use Rattle.std.specs.Prelude.{◌+◌}
 use Rattle.clock.specs.Laws.{IsSortedFrom}
-use Rattle.nvic.specs.Laws.{IsOfBoard}
+use Rattle.nvic.specs.Laws.{FitsBoard}
 use Rattle.platform.specs.SystemInvariant.{HasTimerBits}
 use Rattle.platform.specs.Regions.{IsSound as IsSoundMpu}
 use Rattle.platform.specs.System.{System}
@@ -12,7 +12,7 @@ pub record IsSoundTime (t : Time) : Type 0 where
   pub timer : HasTimerBits t.systick
   pub script : IsSortedFrom (t.ticks + 1) t.script
 
-pub record IsSound (s : System) : Type 0 where
+pub record IsSystemSound (s : System) : Type 0 where
   pub mpu : IsSoundMpu s.mpu
-  pub nvic : IsOfBoard s.nvic
+  pub nvic : FitsBoard s.nvic
   pub time : IsSoundTime s.time

@@ -8,9 +8,9 @@ use crate::bits::{is_bit, weighed};
 use crate::handlers::{read_shcsr, write_shcsr};
 use crate::interrupts::{ictr, trigger};
 use instruction_set::unpredictable::UnpredictableCase;
-use nvic::Levels;
+use nvic::Exceptions;
 use platform::exception::{NMI, PEND_SV, SYS_TICK};
-use platform::stop::{LeftOut, Stop};
+use platform::stop::{Stop, Unsupported};
 use platform::system::ControlRegister;
 
 /// CPUID: implementer 0, and ARCHITECTURE F (the CPUID registers describe it).
@@ -40,106 +40,106 @@ pub fn control_at(word: u32) -> Option<ControlRegister>
 
 /// Reads a register while IPSR is `exception`.
 #[tactic(auto, unfolding(platform::specs::Control::read_control))]
-pub fn read_control<L: Levels>(levels: &L, exception: u16, register: ControlRegister) -> u32
-    ensures { result ≡ spec.read_control exception (L.content levels.now) register }
+pub fn read_control<L: Exceptions>(exceptions: &L, exception: u16, register: ControlRegister) -> u32
+    ensures { result ≡ spec.read_control exception (L.content exceptions.now) register }
 {
     match register {
-        ControlRegister::Ictr => ictr(levels),
+        ControlRegister::Ictr => ictr(exceptions),
         ControlRegister::Cpuid => CPUID,
-        ControlRegister::Icsr => icsr(levels, exception),
-        ControlRegister::Aircr => VECTKEYSTAT + u32::from(levels.group()) * 256,
-        ControlRegister::Shcsr => read_shcsr(levels),
+        ControlRegister::Icsr => icsr(exceptions, exception),
+        ControlRegister::Aircr => VECTKEYSTAT + u32::from(exceptions.group()) * 256,
+        ControlRegister::Shcsr => read_shcsr(exceptions),
         ControlRegister::Stir => 0,
     }
 }
 
 /// Writes a register. A write that stops changes nothing.
 #[tactic(auto, unfolding(platform::specs::Control::write_control))]
-pub fn write_control<L: Levels>(
-    levels: &mut L,
+pub fn write_control<L: Exceptions>(
+    exceptions: &mut L,
     register: ControlRegister,
     value: u32,
 ) -> Result<(), Stop>
-    ensures state { L.content levels.new
-        ≡ after_write (L.content levels.old) (spec.write_control (L.content levels.old) register value) }
-    ensures answer { result ≡ answered (spec.write_control (L.content levels.old) register value) }
+    ensures state { L.content exceptions.new
+        ≡ after_write (L.content exceptions.old) (spec.write_control (L.content exceptions.old) register value) }
+    ensures answer { result ≡ answered (spec.write_control (L.content exceptions.old) register value) }
 {
     match register {
         ControlRegister::Ictr | ControlRegister::Cpuid => Ok(()),
-        ControlRegister::Icsr => write_icsr(levels, value),
-        ControlRegister::Aircr => write_aircr(levels, value),
-        ControlRegister::Shcsr => write_shcsr(levels, value),
+        ControlRegister::Icsr => write_icsr(exceptions, value),
+        ControlRegister::Aircr => write_aircr(exceptions, value),
+        ControlRegister::Shcsr => write_shcsr(exceptions, value),
         ControlRegister::Stir => {
-            trigger(levels, value);
+            trigger(exceptions, value);
             Ok(())
         }
     }
 }
 
 /// Returns ICSR.RETTOBASE: a handler runs, and no exception but its own is active.
-fn rettobase<L: Levels>(levels: &L, exception: u16) -> bool
-    ensures { result ≡ spec.rettobase (L.content levels.now) exception }
+fn rettobase<L: Exceptions>(exceptions: &L, exception: u16) -> bool
+    ensures { result ≡ spec.rettobase (L.content exceptions.now) exception }
 {
-    exception != 0 && !levels.is_other_active(exception)
+    exception != 0 && !exceptions.is_other_active(exception)
 }
 
 /// Reads ICSR while IPSR is `exception`.
 #[tactic(auto, unfolding(platform::specs::Control::icsr))]
-fn icsr<L: Levels>(levels: &L, exception: u16) -> u32
-    ensures { result ≡ spec.icsr (L.content levels.now) exception }
+fn icsr<L: Exceptions>(exceptions: &L, exception: u16) -> u32
+    ensures { result ≡ spec.icsr (L.content exceptions.now) exception }
 {
     u32::from(exception % 512)
-        + weighed(rettobase(levels, exception), 1 << 11)
-        + u32::from(levels.best().unwrap_or(0)) * 4096
-        + weighed(levels.is_interrupt_pending(), 1 << 22)
-        + weighed(levels.is_pending(SYS_TICK), 1 << 26)
-        + weighed(levels.is_pending(PEND_SV), 1 << 28)
-        + weighed(levels.is_pending(NMI), 1 << 31)
+        + weighed(rettobase(exceptions, exception), 1 << 11)
+        + u32::from(exceptions.best().unwrap_or(0)) * 4096
+        + weighed(exceptions.is_interrupt_pending(), 1 << 22)
+        + weighed(exceptions.is_pending(SYS_TICK), 1 << 26)
+        + weighed(exceptions.is_pending(PEND_SV), 1 << 28)
+        + weighed(exceptions.is_pending(NMI), 1 << 31)
 }
 
 /// Makes an exception pending or clears it, by its set bit and its clear bit in ICSR.
-fn set_or_clear<L: Levels>(levels: &mut L, number: u16, set: bool, clear: bool)
-    ensures { L.content levels.new ≡ spec.set_or_cleared (L.content levels.old) number set clear }
+fn set_or_clear<L: Exceptions>(exceptions: &mut L, number: u16, set: bool, clear: bool)
+    ensures { L.content exceptions.new ≡ spec.set_or_cleared (L.content exceptions.old) number set clear }
 {
     if set {
-        levels.pend(number);
+        exceptions.pend(number);
     } else if clear {
-        levels.clear(number);
+        exceptions.clear(number);
     }
 }
 
 /// Writes ICSR; a set bit and its clear bit together stop.
 #[tactic(auto, unfolding(platform::specs::Control::write_icsr))]
-fn write_icsr<L: Levels>(levels: &mut L, value: u32) -> Result<(), Stop>
-    ensures state { L.content levels.new
-        ≡ after_write (L.content levels.old) (spec.write_icsr (L.content levels.old) value) }
-    ensures answer { result ≡ answered (spec.write_icsr (L.content levels.old) value) }
+fn write_icsr<L: Exceptions>(exceptions: &mut L, value: u32) -> Result<(), Stop>
+    ensures state { L.content exceptions.new
+        ≡ after_write (L.content exceptions.old) (spec.write_icsr (L.content exceptions.old) value) }
+    ensures answer { result ≡ answered (spec.write_icsr (L.content exceptions.old) value) }
 {
     if is_bit(value, 28) && is_bit(value, 27) || is_bit(value, 26) && is_bit(value, 25) {
         return Err(Stop::Unpredictable(UnpredictableCase::Icsr));
     }
-    set_or_clear(levels, NMI, is_bit(value, 31), false);
-    set_or_clear(levels, PEND_SV, is_bit(value, 28), is_bit(value, 27));
-    set_or_clear(levels, SYS_TICK, is_bit(value, 26), is_bit(value, 25));
+    set_or_clear(exceptions, NMI, is_bit(value, 31), false);
+    set_or_clear(exceptions, PEND_SV, is_bit(value, 28), is_bit(value, 27));
+    set_or_clear(exceptions, SYS_TICK, is_bit(value, 26), is_bit(value, 25));
     Ok(())
 }
 
 /// Writes AIRCR: PRIGROUP, or a request that stops.
 #[tactic(auto, unfolding(platform::specs::Control::write_aircr))]
-fn write_aircr<L: Levels>(levels: &mut L, value: u32) -> Result<(), Stop>
-    ensures state { L.content levels.new
-        ≡ after_write (L.content levels.old) (spec.write_aircr (L.content levels.old) value) }
-    ensures answer { result ≡ answered (spec.write_aircr (L.content levels.old) value) }
+fn write_aircr<L: Exceptions>(exceptions: &mut L, value: u32) -> Result<(), Stop>
+    ensures state { L.content exceptions.new
+        ≡ after_write (L.content exceptions.old) (spec.write_aircr (L.content exceptions.old) value) }
+    ensures answer { result ≡ answered (spec.write_aircr (L.content exceptions.old) value) }
 {
     if value >> 16 != VECTKEY {
         return Ok(());
     }
     if is_bit(value, 0) || is_bit(value, 1) {
-        return Err(Stop::OutOfProfile(LeftOut::ResetControl));
+        return Err(Stop::OutOfProfile(Unsupported::ResetControl));
     }
     if is_bit(value, 2) {
         return Err(Stop::ResetRequested);
     }
-    levels.set_group((value >> 8 & 7) as u8);
+    exceptions.set_group((value >> 8 & 7) as u8);
     Ok(())
 }

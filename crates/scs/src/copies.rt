@@ -1,30 +1,30 @@
 //! A copy of the System Control Space, to go back to.
 
 use crate::status::Status;
-use clock::{Clock, DueTicks};
+use clock::{Clock, SysTickState};
 use devices::Devices;
 use mpu::MpuRegs;
-use nvic::Levels;
+use nvic::Exceptions;
 use std::marker::Model;
 
 /// A copy of the system registers, the exceptions, time and devices. A contract sees it as the reference's `System`.
 #[derive(Drop)]
-pub struct SystemCopy<L: Levels, U: DueTicks> {
+pub struct SystemCopy<L: Exceptions, U: SysTickState> {
     pub(crate) mpu: MpuRegs,
-    pub(crate) levels: L,
+    pub(crate) exceptions: L,
     pub(crate) status: Status,
     pub(crate) clock: Clock<U>,
     pub(crate) devices: Devices,
 }
 
-impl<L: Levels, U: DueTicks> Model for SystemCopy<L, U> {
+impl<L: Exceptions, U: SysTickState> Model for SystemCopy<L, U> {
     ghost use Rattle.platform.specs.System.{System as SystemState};
 
     ghost Value = { SystemState };
 
     ghost view = { λ s. record {
       mpu = s.mpu;
-      nvic = L.content s.levels;
+      nvic = L.content s.exceptions;
       status = s.status;
       time = s.clock.time;
       devices = s.devices;

@@ -6,9 +6,9 @@ ghost use Rattle.platform.specs.Priorities.{with_pending, with_enabled};
 ghost use Rattle.scs.specs.Writes.{after_write, answered};
 
 use crate::bits::{is_bit, weighed};
-use nvic::Levels;
+use nvic::Exceptions;
 use platform::exception::{BUS_FAULT, MEM_MANAGE, PEND_SV, SV_CALL, SYS_TICK, USAGE_FAULT};
-use platform::stop::{LeftOut, Stop};
+use platform::stop::{Stop, Unsupported};
 
 /// The active bits of SHCSR.
 const ACTIVE: u32 = 0xC8B;
@@ -26,103 +26,103 @@ pub fn handler_priority_at(word: u32) -> Option<u8>
 
 /// Reads the active bits of SHCSR.
 #[tactic(auto, unfolding(platform::specs::Handlers::handlers_active))]
-fn handlers_active<L: Levels>(levels: &L) -> u32
-    ensures value { result ≡ spec.handlers_active (L.content levels.now) }
+fn handlers_active<L: Exceptions>(exceptions: &L) -> u32
+    ensures value { result ≡ spec.handlers_active (L.content exceptions.now) }
     ensures small { result < 2 ^ 12 }
 {
-    weighed(levels.is_active(MEM_MANAGE), 1)
-        + weighed(levels.is_active(BUS_FAULT), 1 << 1)
-        + weighed(levels.is_active(USAGE_FAULT), 1 << 3)
-        + weighed(levels.is_active(SV_CALL), 1 << 7)
-        + weighed(levels.is_active(PEND_SV), 1 << 10)
-        + weighed(levels.is_active(SYS_TICK), 1 << 11)
+    weighed(exceptions.is_active(MEM_MANAGE), 1)
+        + weighed(exceptions.is_active(BUS_FAULT), 1 << 1)
+        + weighed(exceptions.is_active(USAGE_FAULT), 1 << 3)
+        + weighed(exceptions.is_active(SV_CALL), 1 << 7)
+        + weighed(exceptions.is_active(PEND_SV), 1 << 10)
+        + weighed(exceptions.is_active(SYS_TICK), 1 << 11)
 }
 
 /// Reads the pending bits of SHCSR.
 #[tactic(auto, unfolding(platform::specs::Handlers::handlers_pending))]
-fn handlers_pending<L: Levels>(levels: &L) -> u32
-    ensures value { result ≡ spec.handlers_pending (L.content levels.now) }
+fn handlers_pending<L: Exceptions>(exceptions: &L) -> u32
+    ensures value { result ≡ spec.handlers_pending (L.content exceptions.now) }
     ensures small { result < 2 ^ 16 }
 {
-    weighed(levels.is_pending(USAGE_FAULT), 1 << 12)
-        + weighed(levels.is_pending(MEM_MANAGE), 1 << 13)
-        + weighed(levels.is_pending(BUS_FAULT), 1 << 14)
-        + weighed(levels.is_pending(SV_CALL), 1 << 15)
+    weighed(exceptions.is_pending(USAGE_FAULT), 1 << 12)
+        + weighed(exceptions.is_pending(MEM_MANAGE), 1 << 13)
+        + weighed(exceptions.is_pending(BUS_FAULT), 1 << 14)
+        + weighed(exceptions.is_pending(SV_CALL), 1 << 15)
 }
 
 /// Reads the enable bits of SHCSR.
 #[tactic(auto, unfolding(platform::specs::Handlers::handlers_enabled))]
-fn handlers_enabled<L: Levels>(levels: &L) -> u32
-    ensures value { result ≡ spec.handlers_enabled (L.content levels.now) }
+fn handlers_enabled<L: Exceptions>(exceptions: &L) -> u32
+    ensures value { result ≡ spec.handlers_enabled (L.content exceptions.now) }
     ensures small { result < 2 ^ 19 }
 {
-    weighed(levels.is_enabled(MEM_MANAGE), 1 << 16)
-        + weighed(levels.is_enabled(BUS_FAULT), 1 << 17)
-        + weighed(levels.is_enabled(USAGE_FAULT), 1 << 18)
+    weighed(exceptions.is_enabled(MEM_MANAGE), 1 << 16)
+        + weighed(exceptions.is_enabled(BUS_FAULT), 1 << 17)
+        + weighed(exceptions.is_enabled(USAGE_FAULT), 1 << 18)
 }
 
 /// Reads SHCSR.
 #[tactic(auto, unfolding(platform::specs::Handlers::read_shcsr))]
-pub fn read_shcsr<L: Levels>(levels: &L) -> u32
-    ensures { result ≡ spec.read_shcsr (L.content levels.now) }
+pub fn read_shcsr<L: Exceptions>(exceptions: &L) -> u32
+    ensures { result ≡ spec.read_shcsr (L.content exceptions.now) }
 {
-    handlers_active(levels) + handlers_pending(levels) + handlers_enabled(levels)
+    handlers_active(exceptions) + handlers_pending(exceptions) + handlers_enabled(exceptions)
 }
 
 /// Makes an exception pending, or clears it.
-fn set_pending<L: Levels>(levels: &mut L, number: u16, on: bool)
-    ensures { L.content levels.new ≡ with_pending (L.content levels.old) number on }
+fn set_pending<L: Exceptions>(exceptions: &mut L, number: u16, on: bool)
+    ensures { L.content exceptions.new ≡ with_pending (L.content exceptions.old) number on }
 {
     if on {
-        levels.pend(number);
+        exceptions.pend(number);
     } else {
-        levels.clear(number);
+        exceptions.clear(number);
     }
 }
 
 /// Enables an exception, or disables it.
-fn set_enabled<L: Levels>(levels: &mut L, number: u16, on: bool)
-    ensures { L.content levels.new ≡ with_enabled (L.content levels.old) number on }
+fn set_enabled<L: Exceptions>(exceptions: &mut L, number: u16, on: bool)
+    ensures { L.content exceptions.new ≡ with_enabled (L.content exceptions.old) number on }
 {
     if on {
-        levels.enable(number);
+        exceptions.enable(number);
     } else {
-        levels.disable(number);
+        exceptions.disable(number);
     }
 }
 
 /// Writes the pending bits of SHCSR.
 #[tactic(auto, unfolding(platform::specs::Handlers::with_handlers_pending))]
-fn set_handlers_pending<L: Levels>(levels: &mut L, value: u32)
-    ensures { L.content levels.new ≡ spec.with_handlers_pending (L.content levels.old) value }
+fn set_handlers_pending<L: Exceptions>(exceptions: &mut L, value: u32)
+    ensures { L.content exceptions.new ≡ spec.with_handlers_pending (L.content exceptions.old) value }
 {
-    set_pending(levels, USAGE_FAULT, is_bit(value, 12));
-    set_pending(levels, MEM_MANAGE, is_bit(value, 13));
-    set_pending(levels, BUS_FAULT, is_bit(value, 14));
-    set_pending(levels, SV_CALL, is_bit(value, 15));
+    set_pending(exceptions, USAGE_FAULT, is_bit(value, 12));
+    set_pending(exceptions, MEM_MANAGE, is_bit(value, 13));
+    set_pending(exceptions, BUS_FAULT, is_bit(value, 14));
+    set_pending(exceptions, SV_CALL, is_bit(value, 15));
 }
 
 /// Writes the enable bits of SHCSR.
 #[tactic(auto, unfolding(platform::specs::Handlers::with_handlers_enabled))]
-fn set_handlers_enabled<L: Levels>(levels: &mut L, value: u32)
-    ensures { L.content levels.new ≡ spec.with_handlers_enabled (L.content levels.old) value }
+fn set_handlers_enabled<L: Exceptions>(exceptions: &mut L, value: u32)
+    ensures { L.content exceptions.new ≡ spec.with_handlers_enabled (L.content exceptions.old) value }
 {
-    set_enabled(levels, MEM_MANAGE, is_bit(value, 16));
-    set_enabled(levels, BUS_FAULT, is_bit(value, 17));
-    set_enabled(levels, USAGE_FAULT, is_bit(value, 18));
+    set_enabled(exceptions, MEM_MANAGE, is_bit(value, 16));
+    set_enabled(exceptions, BUS_FAULT, is_bit(value, 17));
+    set_enabled(exceptions, USAGE_FAULT, is_bit(value, 18));
 }
 
 /// Writes SHCSR; a value with a changed active bit stops, and changes nothing.
 #[tactic(auto, unfolding(platform::specs::Handlers::write_shcsr))]
-pub fn write_shcsr<L: Levels>(levels: &mut L, value: u32) -> Result<(), Stop>
-    ensures state { L.content levels.new
-        ≡ after_write (L.content levels.old) (spec.write_shcsr (L.content levels.old) value) }
-    ensures answer { result ≡ answered (spec.write_shcsr (L.content levels.old) value) }
+pub fn write_shcsr<L: Exceptions>(exceptions: &mut L, value: u32) -> Result<(), Stop>
+    ensures state { L.content exceptions.new
+        ≡ after_write (L.content exceptions.old) (spec.write_shcsr (L.content exceptions.old) value) }
+    ensures answer { result ≡ answered (spec.write_shcsr (L.content exceptions.old) value) }
 {
-    if value & ACTIVE != handlers_active(levels) {
-        return Err(Stop::OutOfProfile(LeftOut::ActiveBit));
+    if value & ACTIVE != handlers_active(exceptions) {
+        return Err(Stop::OutOfProfile(Unsupported::ActiveBit));
     }
-    set_handlers_pending(levels, value);
-    set_handlers_enabled(levels, value);
+    set_handlers_pending(exceptions, value);
+    set_handlers_enabled(exceptions, value);
     Ok(())
 }

@@ -4,18 +4,18 @@ ghost use Rattle.std.specs.Prelude.{◌≡◌, ◌<◌, ◌^◌};
 ghost use Rattle.platform.specs.Interrupts as spec;
 
 use crate::bits::is_bit;
-use nvic::Levels;
-use platform::exception::{FIRST_INTERRUPT, MOST_INTERRUPTS};
+use nvic::Exceptions;
+use platform::exception::{FIRST_INTERRUPT, MAX_INTERRUPTS};
 use platform::system::InterruptRegister;
 
 // The address of the first byte of IPR. There is one byte for each interrupt.
 const IPR_BASE: u32 = 0xE000_E400;
 
 /// Reads ICTR.
-pub fn ictr<L: Levels>(levels: &L) -> u32
-    ensures { result ≡ spec.ictr (L.content levels.now) }
+pub fn ictr<L: Exceptions>(exceptions: &L) -> u32
+    ensures { result ≡ spec.ictr (L.content exceptions.now) }
 {
-    u32::from(levels.interrupts().saturating_sub(1)) / 32
+    u32::from(exceptions.interrupts().saturating_sub(1)) / 32
 }
 
 /// Returns the register that has a word at this address, if it is one of these.
@@ -49,26 +49,26 @@ fn first_exception(word: u8) -> u16
 }
 
 /// Returns whether a register reads 1 at the bit of an exception.
-fn is_shown<L: Levels>(levels: &L, register: InterruptRegister, number: u16) -> bool
-    ensures { result ≡ spec.is_shown (L.content levels.now) register number }
+fn is_shown<L: Exceptions>(exceptions: &L, register: InterruptRegister, number: u16) -> bool
+    ensures { result ≡ spec.is_shown (L.content exceptions.now) register number }
 {
     match register {
-        InterruptRegister::Iser | InterruptRegister::Icer => levels.is_enabled(number),
-        InterruptRegister::Ispr | InterruptRegister::Icpr => levels.is_pending(number),
-        InterruptRegister::Iabr => levels.is_active(number),
+        InterruptRegister::Iser | InterruptRegister::Icer => exceptions.is_enabled(number),
+        InterruptRegister::Ispr | InterruptRegister::Icpr => exceptions.is_pending(number),
+        InterruptRegister::Iabr => exceptions.is_active(number),
     }
 }
 
 /// Reads a word of a register.
 #[tactic(auto, unfolding(platform::specs::Interrupts::read_interrupts))]
-pub fn read_interrupts<L: Levels>(levels: &L, register: InterruptRegister, word: u8) -> u32
-    ensures { result ≡ spec.read_interrupts (L.content levels.now) register word }
+pub fn read_interrupts<L: Exceptions>(exceptions: &L, register: InterruptRegister, word: u8) -> u32
+    ensures { result ≡ spec.read_interrupts (L.content exceptions.now) register word }
 {
     let first = first_exception(word);
     let mut value = 0;
     #[tactic(auto, unfolding(platform::specs::Interrupts::shown_below))]
     'each: for bit in 0..32u16 {
-        if is_shown(levels, register, first + bit) {
+        if is_shown(exceptions, register, first + bit) {
             value += 1 << bit;
         }
     }
@@ -77,22 +77,22 @@ pub fn read_interrupts<L: Levels>(levels: &L, register: InterruptRegister, word:
 
 /// Writes 1 to the bit of an exception.
 #[tactic(auto, unfolding(platform::specs::Interrupts::with_one))]
-fn write_one<L: Levels>(levels: &mut L, register: InterruptRegister, number: u16)
-    ensures { L.content levels.new ≡ spec.with_one (L.content levels.old) register number }
+fn write_one<L: Exceptions>(exceptions: &mut L, register: InterruptRegister, number: u16)
+    ensures { L.content exceptions.new ≡ spec.with_one (L.content exceptions.old) register number }
 {
     match register {
-        InterruptRegister::Iser => levels.enable(number),
-        InterruptRegister::Icer => levels.disable(number),
-        InterruptRegister::Ispr => levels.pend(number),
-        InterruptRegister::Icpr => levels.clear(number),
+        InterruptRegister::Iser => exceptions.enable(number),
+        InterruptRegister::Icer => exceptions.disable(number),
+        InterruptRegister::Ispr => exceptions.pend(number),
+        InterruptRegister::Icpr => exceptions.clear(number),
         InterruptRegister::Iabr => {}
     }
 }
 
 /// Writes one bit of a value, whose bit 0 is that of the exception `first`.
 #[tactic(auto, unfolding(platform::specs::Interrupts::with_bit))]
-fn write_bit<L: Levels>(
-    levels: &mut L,
+fn write_bit<L: Exceptions>(
+    exceptions: &mut L,
     register: InterruptRegister,
     first: u16,
     value: u32,
@@ -100,27 +100,27 @@ fn write_bit<L: Levels>(
 )
     requires of_word { bit < 32 }
     requires small { first < 2 ^ 15 }
-    ensures { L.content levels.new ≡ spec.with_bit (L.content levels.old) register first value bit }
+    ensures { L.content exceptions.new ≡ spec.with_bit (L.content exceptions.old) register first value bit }
 {
     if is_bit(value, u32::from(bit)) {
-        write_one(levels, register, first + bit);
+        write_one(exceptions, register, first + bit);
     }
 }
 
 /// Writes a word of a register.
 #[tactic(auto, unfolding(platform::specs::Interrupts::write_interrupts))]
-pub fn write_interrupts<L: Levels>(
-    levels: &mut L,
+pub fn write_interrupts<L: Exceptions>(
+    exceptions: &mut L,
     register: InterruptRegister,
     word: u8,
     value: u32,
 )
-    ensures { L.content levels.new ≡ spec.write_interrupts (L.content levels.old) register word value }
+    ensures { L.content exceptions.new ≡ spec.write_interrupts (L.content exceptions.old) register word value }
 {
     let first = first_exception(word);
     #[tactic(auto, unfolding(platform::specs::Interrupts::with_bits_below))]
     'each: for bit in 0..32u16 {
-        write_bit(levels, register, first, value, bit);
+        write_bit(exceptions, register, first, value, bit);
     }
 }
 
@@ -129,7 +129,7 @@ pub fn write_interrupts<L: Levels>(
 pub fn interrupt_priority_at(word: u32) -> Option<u8>
     ensures { result ≡ spec.interrupt_priority_at word }
 {
-    let end = IPR_BASE + u32::from(MOST_INTERRUPTS);
+    let end = IPR_BASE + u32::from(MAX_INTERRUPTS);
     if IPR_BASE <= word && word < end {
         Some((word - IPR_BASE) as u8 + FIRST_INTERRUPT as u8)
     } else {
@@ -139,33 +139,33 @@ pub fn interrupt_priority_at(word: u32) -> Option<u8>
 
 /// Reads the priority bytes of four exceptions, the first of them lowest.
 #[tactic(auto, unfolding(platform::specs::Interrupts::read_priorities))]
-pub fn read_priorities<L: Levels>(levels: &L, first: u8) -> u32
-    ensures { result ≡ spec.read_priorities (L.content levels.now) first }
+pub fn read_priorities<L: Exceptions>(exceptions: &L, first: u8) -> u32
+    ensures { result ≡ spec.read_priorities (L.content exceptions.now) first }
 {
     let first = u16::from(first);
-    u32::from(levels.priority(first))
-        + u32::from(levels.priority(first + 1)) * 0x100
-        + u32::from(levels.priority(first + 2)) * 0x1_0000
-        + u32::from(levels.priority(first + 3)) * 0x100_0000
+    u32::from(exceptions.priority(first))
+        + u32::from(exceptions.priority(first + 1)) * 0x100
+        + u32::from(exceptions.priority(first + 2)) * 0x1_0000
+        + u32::from(exceptions.priority(first + 3)) * 0x100_0000
 }
 
 /// Writes the priorities of `count` exceptions from `first` on, the first from the lowest byte.
-pub fn write_priorities<L: Levels>(levels: &mut L, first: u16, value: u32, count: u32)
+pub fn write_priorities<L: Exceptions>(exceptions: &mut L, first: u16, value: u32, count: u32)
     requires small { first < 2 ^ 15 }
     requires few { count < 5 }
-    ensures { L.content levels.new ≡ spec.write_priorities (L.content levels.old) first value count }
+    ensures { L.content exceptions.new ≡ spec.write_priorities (L.content exceptions.old) first value count }
 {
     #[tactic(auto, unfolding(platform::specs::Interrupts::write_priorities))]
     'each: for index in 0..count {
         let byte = (value >> (8 * index) & 0xFF) as u8;
-        levels.set_priority(first + index as u16, byte);
+        exceptions.set_priority(first + index as u16, byte);
     }
 }
 
 /// Writes STIR: the interrupt whose number is in bits 8:0 becomes pending.
 #[tactic(auto, unfolding(platform::specs::Interrupts::triggered))]
-pub fn trigger<L: Levels>(levels: &mut L, value: u32)
-    ensures { L.content levels.new ≡ spec.triggered (L.content levels.old) value }
+pub fn trigger<L: Exceptions>(exceptions: &mut L, value: u32)
+    ensures { L.content exceptions.new ≡ spec.triggered (L.content exceptions.old) value }
 {
-    levels.pend(FIRST_INTERRUPT + (value % 512) as u16);
+    exceptions.pend(FIRST_INTERRUPT + (value % 512) as u16);
 }

@@ -8,12 +8,12 @@ use crate::addresses::register_at;
 use crate::control::read_control;
 use crate::interrupts::{read_interrupts, read_priorities};
 use crate::system::System;
-use clock::{DueTicks, SysTick};
+use clock::{SysTick, SysTickState};
 use mpu::Decider;
-use nvic::Levels;
+use nvic::Exceptions;
 use platform::system::{SysTickRegister, SystemRegister};
 
-impl<D: Decider, L: Levels, U: DueTicks> System<D, L, U> {
+impl<D: Decider, L: Exceptions, U: SysTickState> System<D, L, U> {
     /// Returns what the word at an address of the Private Peripheral Bus reads while IPSR is `exception`. Nothing is
     /// read, so COUNTFLAG stays.
     pub fn look(&self, exception: u16, address: u32) -> u32
@@ -30,10 +30,14 @@ impl<D: Decider, L: Levels, U: DueTicks> System<D, L, U> {
         match register {
             SystemRegister::SysTick(register) => look_at_systick(self.clock().systick(), register),
             SystemRegister::Interrupts(register, word) => {
-                read_interrupts(self.levels(), register, word)
+                read_interrupts(self.exceptions(), register, word)
             }
-            SystemRegister::Priorities(first) => read_priorities(self.levels(), first),
-            SystemRegister::Control(register) => read_control(self.levels(), exception, register),
+            SystemRegister::Priorities(first) => read_priorities(self.exceptions(), first),
+            SystemRegister::Control(register) => read_control(
+                self.exceptions(),
+                exception,
+                register,
+            ),
             SystemRegister::Status(register) => self.status().read(register),
             SystemRegister::Mpu(register) => self.mpu().read_reg(register),
             SystemRegister::Unlisted => 0,

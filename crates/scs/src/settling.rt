@@ -1,24 +1,25 @@
 //! The board's devices: accesses to them, pokes, and what their lines do to interrupts (profile).
 
-ghost use Rattle.std.specs.Prelude.{◌≡◌, ◌+◌, ◌^◌, ◌<◌, ◌∷◌, ◌&&◌, [], nat_lt, not, true, IfSome};
+ghost use Rattle.std.specs.Prelude.{◌≡◌, ◌+◌, ◌^◌, ◌<◌, ◌∷◌, ◌&&◌, [], nat_lt, not, true, IfSome, Some};
 ghost use Rattle.devices.specs.Laws.{have};
-ghost use Rattle.devices.specs.Devices.{read_at};
+ghost use Rattle.devices.specs.Devices.{position_from, read_at};
 ghost use Rattle.devices.specs.Lines.{drives};
 ghost use Rattle.devices.specs.Pokes.{poked_all};
 ghost use Rattle.instruction_set.specs.Sizes.{bytes_in};
 ghost use Rattle.platform.specs.Kinds.{is_store};
 ghost use Rattle.platform.specs.Outcomes.{IsOf, LeavesUnlessDone};
 ghost use Rattle.platform.specs.Priorities.{with_due};
-ghost use Rattle.platform.specs.System.{after_pokes, after_signal, after_tick, are_any, device_access, loaded_from_device};
+ghost use Rattle.platform.specs.System.{after_pokes, after_signal, after_tick, are_any, device_access};
+ghost use Rattle.platform.specs.System.{loaded_from_device};
 ghost use Rattle.platform.specs.System.{on_interrupts, pokes_of, settled, stored_to_device, with_level, with_levels};
-ghost use Rattle.scs.specs.Levels.{are_pokes, seen};
+ghost use Rattle.scs.specs.LineLevels.{are_pokes, seen};
 
 use crate::system::System;
-use clock::{Due, DueTicks, HighInterrupts, InterruptNumber, ScriptedEvent, Signal};
+use clock::{Due, HighInterrupts, InterruptNumber, ScriptedEvent, Signal, SysTickState};
 use devices::{Devices, Level, Poke, Pokes};
 use instruction_set::size::Size;
 use mpu::Decider;
-use nvic::Levels;
+use nvic::Exceptions;
 use platform::access::{DoneAccess, Performed, Request, Rule};
 
 /// The pokes of events.
@@ -45,7 +46,7 @@ impl<'a> Pokes for EventPokes<'a> {
     }
 }
 
-impl<D: Decider, L: Levels, U: DueTicks> System<D, L, U> {
+impl<D: Decider, L: Exceptions, U: SysTickState> System<D, L, U> {
     /// Returns whether the board describes devices.
     #[inline]
     #[tactic(auto, using(crate::proofs::Devices::any_by_length))]
@@ -66,7 +67,7 @@ impl<D: Decider, L: Levels, U: DueTicks> System<D, L, U> {
     pub fn is_free(&self, interrupt: u8) -> bool
         ensures { result ≡ (nat_lt interrupt self.now.nvic.interrupts && not (drives self.now.devices interrupt)) }
     {
-        interrupt < self.levels.interrupts() && !self.devices.drive(interrupt)
+        interrupt < self.exceptions.interrupts() && !self.devices.drive(interrupt)
     }
 
     /// Returns what a load of this size would read of a device now, if one has the address. Nothing is poked.
@@ -77,24 +78,33 @@ impl<D: Decider, L: Levels, U: DueTicks> System<D, L, U> {
         self.devices.read(self.clock.now(), address, size)
     }
 
-    /// Carries out a load or a store that a rule granted, to a word of a device. Then the lines settle.
-    #[tactic(auto, using(crate::proofs::Devices::device_leaves), unfolding(platform::specs::System::device_access))]
-    pub fn access_device(&mut self, rule: Rule, request: &Request) -> Performed
-        requires { have self.old.devices request.now.access.address ≡ true }
+    /// Returns the number of the first device that has an address.
+    pub fn device_at(&self, address: u32) -> Option<usize>
+        ensures { result ≡ position_from 0 self.now.devices address }
+    {
+        self.devices.position(address)
+    }
+
+    /// Carries out a load or a store that a rule granted, to a word of the device of this number, the first that has
+    /// the address. Then the lines settle.
+    #[tactic(auto, using(crate::proofs::Devices::device_leaves_at), unfolding(platform::specs::System::device_access))]
+    pub fn access_device(&mut self, at: usize, rule: Rule, request: &Request) -> Performed
+        requires { position_from 0 self.old.devices request.now.access.address ≡ Some at }
         ensures system { self.new ≡ (device_access self.old rule request.now).after }
         ensures performed { result ≡ (device_access self.old rule request.now).performed }
         ensures of_request { IsOf request.now result }
         ensures refused { LeavesUnlessDone result self.old self.new }
     {
         if request.access.kind.is_store() {
-            self.store_to_device(rule, request)
+            self.store_to_device(at, rule, request)
         } else {
-            self.load_from_device(rule, request)
+            self.load_from_device(at, rule, request)
         }
     }
 
-    /// Loads from a device, if one has the address.
-    fn load_from_device(&mut self, rule: Rule, request: &Request) -> Performed
+    /// Loads from the device of this number, the first that has the address.
+    fn load_from_device(&mut self, at: usize, rule: Rule, request: &Request) -> Performed
+        requires { position_from 0 self.old.devices request.now.access.address ≡ Some at }
         ensures system { self.new ≡ (loaded_from_device self.old rule request.now).after }
         ensures performed { result ≡ (loaded_from_device self.old rule request.now).performed }
         ensures of_request { IsOf request.now result }
@@ -102,33 +112,28 @@ impl<D: Decider, L: Levels, U: DueTicks> System<D, L, U> {
         let access = &request.access;
         let value = self
             .devices
-            .load(self.clock.now(), access.address, access.size);
+            .load_at(at, self.clock.now(), access.address, access.size);
         self.settle();
-        match value {
-            Some(value) => Performed::done(rule, value),
-            None => Performed::bus_error(rule),
-        }
+        Performed::done(rule, value)
     }
 
-    /// Stores to a device, if one has the address.
-    fn store_to_device(&mut self, rule: Rule, request: &Request) -> Performed
-        requires { is_store request.now.access.kind ≡ true }
+    /// Stores to the device of this number, the first that has the address.
+    fn store_to_device(&mut self, at: usize, rule: Rule, request: &Request) -> Performed
+        requires there { position_from 0 self.old.devices request.now.access.address ≡ Some at }
+        requires store { is_store request.now.access.kind ≡ true }
         ensures system { self.new ≡ (stored_to_device self.old rule request.now).after }
         ensures performed { result ≡ (stored_to_device self.old rule request.now).performed }
         ensures of_request { IsOf request.now result }
     {
         let access = &request.access;
-        let stored = self.devices.store(
+        let sent = self.devices.store_at(
+            at,
             self.clock.now(),
             access.address,
             access.size,
             request.value,
         );
         self.settle();
-        let sent = match stored {
-            Some(stored) => stored.sent,
-            None => None,
-        };
         Performed::Done(DoneAccess {
             rule,
             value: 0,
@@ -161,7 +166,7 @@ impl<D: Decider, L: Levels, U: DueTicks> System<D, L, U> {
         ensures { self.new ≡ on_interrupts self.old what.now }
     {
         let due = self.clock.signal(what);
-        self.levels.pend_due(&due);
+        self.exceptions.pend_due(&due);
     }
 
     /// Settles the lines of all devices, in the order of the board.
@@ -169,6 +174,9 @@ impl<D: Decider, L: Levels, U: DueTicks> System<D, L, U> {
     pub(crate) fn settle(&mut self)
         ensures { self.new ≡ settled self.old }
     {
+        if !self.devices.are_lined() {
+            return;
+        }
         let levels = self.devices.levels(self.clock.now());
         'levels: for level in levels.as_slice() {
             self.take_level(*level);
@@ -216,7 +224,7 @@ impl<D: Decider, L: Levels, U: DueTicks> System<D, L, U> {
         due
     }
 
-    /// Does to a set of exceptions and to interrupts what the level of a line does.
+    /// Applies the level of a line to the exceptions that are due and to the interrupts whose input is high.
     #[tactic(auto, using(crate::proofs::Devices::seen_lemmas))]
     fn peek_level(&self, due: &mut Due, high: &mut HighInterrupts, level: Level)
         ensures { with_level (seen self.now due.old high.old) level ≡ seen self.now due.new high.new }

@@ -5,7 +5,7 @@ ghost use Rattle.platform.specs.Priorities as priorities;
 ghost use Rattle.platform.specs.SpecialRegisters as spec;
 
 use instruction_set::system::{ChangeProcessorState, SpecialRegister};
-use nvic::{Levels, Masks, Priority};
+use nvic::{Exceptions, Masks, Priority};
 use regs::{Regs, flags_of};
 
 /// Returns whether unprivileged code reads a register as 0.
@@ -102,24 +102,29 @@ pub fn set_special(regs: &mut Regs, special: SpecialRegister, value: u32)
 
 /// Writes the masks as MSR does, by code that is privileged or not.
 #[tactic(auto, unfolding(platform::specs::SpecialRegisters::write_mask))]
-pub fn write_mask<L: Levels>(levels: &mut L, privileged: bool, special: SpecialRegister, value: u32)
-    ensures { L.content levels.new ≡ spec.write_mask privileged (L.content levels.old) special value }
+pub fn write_mask<L: Exceptions>(
+    exceptions: &mut L,
+    privileged: bool,
+    special: SpecialRegister,
+    value: u32,
+)
+    ensures { L.content exceptions.new ≡ spec.write_mask privileged (L.content exceptions.old) special value }
 {
     if privileged {
-        set_mask(levels, special, value);
+        set_mask(exceptions, special, value);
     }
 }
 
 /// Writes the masks as MSR of privileged code does.
 #[tactic(auto, unfolding(platform::specs::SpecialRegisters::with_mask))]
-pub fn set_mask<L: Levels>(levels: &mut L, special: SpecialRegister, value: u32)
-    ensures { L.content levels.new ≡ spec.with_mask (L.content levels.old) special value }
+pub fn set_mask<L: Exceptions>(exceptions: &mut L, special: SpecialRegister, value: u32)
+    ensures { L.content exceptions.new ≡ spec.with_mask (L.content exceptions.old) special value }
 {
     match special {
-        SpecialRegister::Primask => levels.set_primask(value & 1 == 1),
-        SpecialRegister::Basepri => levels.set_basepri((value & 0xFF) as u8),
-        SpecialRegister::BasepriMax => write_basepri_max(levels, (value & 0xFF) as u8),
-        SpecialRegister::Faultmask => write_faultmask(levels, value & 1 == 1),
+        SpecialRegister::Primask => exceptions.set_primask(value & 1 == 1),
+        SpecialRegister::Basepri => exceptions.set_basepri((value & 0xFF) as u8),
+        SpecialRegister::BasepriMax => write_basepri_max(exceptions, (value & 0xFF) as u8),
+        SpecialRegister::Faultmask => write_faultmask(exceptions, value & 1 == 1),
         SpecialRegister::Apsr
         | SpecialRegister::Iapsr
         | SpecialRegister::Eapsr
@@ -135,11 +140,11 @@ pub fn set_mask<L: Levels>(levels: &mut L, special: SpecialRegister, value: u32)
 
 /// Writes FAULTMASK, which becomes 1 only at an execution priority above -1.
 #[tactic(auto, unfolding(platform::specs::SpecialRegisters::faultmask_written))]
-fn write_faultmask<L: Levels>(levels: &mut L, on: bool)
-    ensures { L.content levels.new ≡ spec.faultmask_written (L.content levels.old) on }
+fn write_faultmask<L: Exceptions>(exceptions: &mut L, on: bool)
+    ensures { L.content exceptions.new ≡ spec.faultmask_written (L.content exceptions.old) on }
 {
-    if !on || Priority::HARD_FAULT.is_below(levels.execution_priority()) {
-        levels.set_faultmask(on);
+    if !on || Priority::HARD_FAULT.is_below(exceptions.execution_priority()) {
+        exceptions.set_faultmask(on);
     }
 }
 
@@ -152,12 +157,12 @@ fn is_tighter(basepri: u8, value: u8) -> bool
 
 /// Writes BASEPRI_MAX, which only makes BASEPRI mask more.
 #[tactic(auto, unfolding(platform::specs::SpecialRegisters::basepri_max_written))]
-fn write_basepri_max<L: Levels>(levels: &mut L, byte: u8)
-    ensures { L.content levels.new ≡ spec.basepri_max_written (L.content levels.old) byte }
+fn write_basepri_max<L: Exceptions>(exceptions: &mut L, byte: u8)
+    ensures { L.content exceptions.new ≡ spec.basepri_max_written (L.content exceptions.old) byte }
 {
-    let value = kept(levels.priority_bits(), byte);
-    if is_tighter(levels.masks().basepri, value) {
-        levels.set_basepri(byte);
+    let value = kept(exceptions.priority_bits(), byte);
+    if is_tighter(exceptions.masks().basepri, value) {
+        exceptions.set_basepri(byte);
     }
 }
 
@@ -171,16 +176,20 @@ fn kept(priority_bits: u8, byte: u8) -> u8
 
 /// Changes the masks as CPS does, by code that is privileged or not.
 #[tactic(auto, unfolding(platform::specs::SpecialRegisters::change_state))]
-pub fn change_state<L: Levels>(levels: &mut L, privileged: bool, operands: &ChangeProcessorState)
-    ensures { L.content levels.new ≡ spec.change_state privileged (L.content levels.old) operands.now }
+pub fn change_state<L: Exceptions>(
+    exceptions: &mut L,
+    privileged: bool,
+    operands: &ChangeProcessorState,
+)
+    ensures { L.content exceptions.new ≡ spec.change_state privileged (L.content exceptions.old) operands.now }
 {
     if !privileged {
         return;
     }
     if operands.primask {
-        levels.set_primask(operands.disables);
+        exceptions.set_primask(operands.disables);
     }
     if operands.faultmask {
-        write_faultmask(levels, operands.disables);
+        write_faultmask(exceptions, operands.disables);
     }
 }

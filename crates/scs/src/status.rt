@@ -7,7 +7,7 @@ ghost use Rattle.platform.specs.Status.{read_status, write_status, write_scr, wr
 ghost use Rattle.scs.specs.Writes.{after_write, answered};
 
 use crate::bits::is_bit;
-use platform::stop::{LeftOut, Stop};
+use platform::stop::{Stop, Unsupported};
 use platform::system::StatusRegister;
 use std::marker::Model;
 
@@ -64,7 +64,6 @@ impl Status {
         }
     }
 
-    /// Returns a copy.
     pub fn copied(&self) -> Self
         ensures { result ≡ self.now }
     {
@@ -87,7 +86,6 @@ impl Status {
         self.vtor
     }
 
-    /// Returns CCR.NONBASETHRDENA.
     #[inline]
     pub fn nonbasethrdena(&self) -> bool
         ensures { result ≡ nonbasethrdena self.now }
@@ -95,7 +93,6 @@ impl Status {
         is_bit(self.ccr, 0)
     }
 
-    /// Returns CCR.USERSETMPEND.
     #[inline]
     pub fn usersetmpend(&self) -> bool
         ensures { result ≡ usersetmpend self.now }
@@ -103,7 +100,6 @@ impl Status {
         is_bit(self.ccr, 1)
     }
 
-    /// Returns CCR.UNALIGN_TRP.
     #[inline]
     pub fn unalign_trp(&self) -> bool
         ensures { result ≡ unalign_trp self.now }
@@ -111,7 +107,6 @@ impl Status {
         is_bit(self.ccr, 3)
     }
 
-    /// Returns CCR.DIV_0_TRP.
     #[inline]
     pub fn div_0_trp(&self) -> bool
         ensures { result ≡ div_0_trp self.now }
@@ -141,7 +136,6 @@ impl Status {
         self.bfar = address;
     }
 
-    /// Returns CFSR.
     #[tactic(auto, unfolding(platform::specs::Status::read_status))]
     pub fn cfsr(&self) -> u32
         ensures { result ≡ self.now.cfsr }
@@ -149,7 +143,6 @@ impl Status {
         self.read(StatusRegister::Cfsr)
     }
 
-    /// Returns HFSR.
     #[tactic(auto, unfolding(platform::specs::Status::read_status))]
     pub fn hfsr(&self) -> u32
         ensures { result ≡ self.now.hfsr }
@@ -197,7 +190,7 @@ impl Status {
         ensures answer { result ≡ answered (write_scr self.old value) }
     {
         if is_bit(value, 1) {
-            return Err(Stop::OutOfProfile(LeftOut::SleepOnExit));
+            return Err(Stop::OutOfProfile(Unsupported::SleepOnExit));
         }
         self.scr = value & SCR_KEPT;
         Ok(())
@@ -209,7 +202,7 @@ impl Status {
         ensures answer { result ≡ answered (write_ccr self.old value) }
     {
         if is_bit(value, 8) {
-            return Err(Stop::OutOfProfile(LeftOut::IgnoredBusFaults));
+            return Err(Stop::OutOfProfile(Unsupported::IgnoredBusFaults));
         }
         self.ccr = value & CCR_KEPT | STKALIGN;
         Ok(())

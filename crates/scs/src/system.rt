@@ -1,7 +1,7 @@
 //! The state of the System Control Space, accesses to it, and ticks.
 
 ghost use Rattle.std.specs.Prelude.{◌≡◌, ◌+◌, ◌^◌, ◌<◌, ◌≤◌, ◌⊎◌, ◌&&◌, ℕ, List, true, false, not, IfOk, IfSome};
-ghost use Rattle.clock.specs.DueTicks.{IsRight};
+ghost use Rattle.clock.specs.DueTick.{DueTickIsExact};
 ghost use Rattle.devices.specs.declared.device.Device.{Device as TheDevice};
 ghost use Rattle.devices.specs.Copies.{HaveSameDevices};
 ghost use Rattle.devices.specs.Devices.{fresh};
@@ -30,14 +30,14 @@ use crate::settling::poke_by;
 use crate::special;
 use crate::status::Status;
 use crate::systick::{read_systick, write_systick};
-use clock::{Clock, DueTicks, Script};
+use clock::{Clock, Script, SysTickState};
 use devices::Devices;
 use instruction_set::system::{ChangeProcessorState, SpecialRegister};
 use mpu::{Decider, GrantedSpan, MpuRegister, MpuRegs, stop_of, uses_regions};
-use nvic::{Levels, Masks};
+use nvic::{Exceptions, Masks};
 use platform::access::{Access, Decision, Kind, Performed, Request, Rule};
 use platform::exception::FIRST_INTERRUPT;
-use platform::stop::{LeftOut, Stop};
+use platform::stop::{Stop, Unsupported};
 use platform::system::SystemRegister;
 use regs::Regs;
 use std::alloc::{AllocError, Global};
@@ -48,33 +48,33 @@ const STIR: u32 = 0xE000_EF00;
 
 /// The MPU with what decides by it, the exceptions, the status registers, time, and the board's devices.
 #[derive(Drop)]
-pub struct System<D: Decider, L: Levels, U: DueTicks> {
+pub struct System<D: Decider, L: Exceptions, U: SysTickState> {
     mpu: MpuRegs,
     decider: D,
-    pub(crate) levels: L,
+    pub(crate) exceptions: L,
     status: Status,
     pub(crate) clock: Clock<U>,
     pub(crate) devices: Devices,
 }
 
-impl<D: Decider, L: Levels, U: DueTicks> Model for System<D, L, U> {
-    ghost use Rattle.clock.specs.DueTicks.{IsRight};
+impl<D: Decider, L: Exceptions, U: SysTickState> Model for System<D, L, U> {
+    ghost use Rattle.clock.specs.DueTick.{DueTickIsExact};
     ghost use Rattle.platform.specs.System.{System as SystemState};
 
     ghost Value = { SystemState };
 
     ghost view = { λ s. record {
       mpu = s.mpu;
-      nvic = L.content s.levels;
+      nvic = L.content s.exceptions;
       status = s.status;
       time = s.clock.time;
       devices = s.devices;
     } };
 
-    ghost invariant = { λ s. D.decides_for s.decider s.mpu × IsRight s.clock };
+    ghost invariant = { λ s. D.decides_for s.decider s.mpu × DueTickIsExact s.clock };
 }
 
-impl<D: Decider, L: Levels, U: DueTicks> System<D, L, U> {
+impl<D: Decider, L: Exceptions, U: SysTickState> System<D, L, U> {
     /// Returns the system after a reset: with flash at `flash_base`, `interrupts` external interrupts, of which
     /// the first 240 count, `priority_bits` bits of a priority, 8 or 16 regions, a script, and devices at the start.
     #[tactic(auto, unfolding(platform::specs::System::settled))]
@@ -95,7 +95,7 @@ impl<D: Decider, L: Levels, U: DueTicks> System<D, L, U> {
         let mut system = System {
             mpu,
             decider,
-            levels: L::fresh(interrupts, priority_bits),
+            exceptions: L::fresh(interrupts, priority_bits),
             status: Status::reset(flash_base),
             clock: Clock::new(script),
             devices,
@@ -112,7 +112,7 @@ impl<D: Decider, L: Levels, U: DueTicks> System<D, L, U> {
         let devices = self.devices.copied(alloc)?;
         Ok(SystemCopy {
             mpu: self.mpu,
-            levels: self.levels.copied(),
+            exceptions: self.exceptions.copied(),
             status: self.status.copied(),
             clock,
             devices,
@@ -125,7 +125,7 @@ impl<D: Decider, L: Levels, U: DueTicks> System<D, L, U> {
         ensures { copy.new ≡ self.now }
     {
         copy.mpu = self.mpu;
-        copy.levels = self.levels.copied();
+        copy.exceptions = self.exceptions.copied();
         copy.status = self.status.copied();
         copy.clock.copy_from(&self.clock);
         copy.devices.copy_from(&self.devices);
@@ -138,7 +138,7 @@ impl<D: Decider, L: Levels, U: DueTicks> System<D, L, U> {
     {
         self.mpu = copy.mpu;
         self.decider.reload(&copy.mpu);
-        self.levels = copy.levels.copied();
+        self.exceptions = copy.exceptions.copied();
         self.status = copy.status.copied();
         self.clock.copy_from(&copy.clock);
         self.devices.copy_from(&copy.devices);
@@ -180,7 +180,7 @@ impl<D: Decider, L: Levels, U: DueTicks> System<D, L, U> {
         let ticks = self.clock.now() + 1;
         let poked = poke_by(&mut self.devices, ticks, self.clock.events_next());
         let due = self.clock.tick_due();
-        self.levels.pend_due(&due);
+        self.exceptions.pend_due(&due);
         if poked {
             self.settle();
         }
@@ -198,24 +198,23 @@ impl<D: Decider, L: Levels, U: DueTicks> System<D, L, U> {
     /// Returns time.
     pub fn clock(&self) -> &Clock<U>
         ensures value { result.now.time ≡ self.now.time }
-        ensures right { IsRight result.now }
+        ensures right { DueTickIsExact result.now }
     {
         &self.clock
     }
 
     /// Returns the exceptions.
     #[inline]
-    pub fn levels(&self) -> &L
+    pub fn exceptions(&self) -> &L
         ensures { L.content result.now ≡ self.now.nvic }
     {
-        &self.levels
+        &self.exceptions
     }
 
-    /// Returns PRIMASK, FAULTMASK and BASEPRI.
     pub fn masks(&self) -> Masks
         ensures { result ≡ self.now.nvic.masks }
     {
-        self.levels.masks()
+        self.exceptions.masks()
     }
 
     /// Returns what decides accesses by the registers of the MPU.
@@ -234,7 +233,7 @@ impl<D: Decider, L: Levels, U: DueTicks> System<D, L, U> {
             (is_below_zero self.old.nvic) }
         ensures same { self.new ≡ self.old }
     {
-        let below_zero = self.levels.is_below_zero();
+        let below_zero = self.exceptions.is_below_zero();
         self.decider
             .decide_and_keep(access.address, access.kind, access.privileged, below_zero)
     }
@@ -246,7 +245,7 @@ impl<D: Decider, L: Levels, U: DueTicks> System<D, L, U> {
             (λ rule. decision_of self.now.mpu access.now.address access.now.kind access.now.privileged
             (is_below_zero self.now.nvic) ≡ record { rule = rule; granted = true }) }
     {
-        if self.levels.is_below_zero() {
+        if self.exceptions.is_below_zero() {
             return None;
         }
         self.decider
@@ -259,7 +258,7 @@ impl<D: Decider, L: Levels, U: DueTicks> System<D, L, U> {
     pub fn kept_span(&self, address: u32, kind: Kind, privileged: bool) -> Option<GrantedSpan>
         ensures { IfSome result (λ span. GrantsSpan self.now.mpu (is_below_zero self.now.nvic) span kind privileged) }
     {
-        let below_zero = self.levels.is_below_zero();
+        let below_zero = self.exceptions.is_below_zero();
         if below_zero {
             return None;
         }
@@ -295,14 +294,14 @@ impl<D: Decider, L: Levels, U: DueTicks> System<D, L, U> {
         ensures { result ≡ (is_on self.now.mpu.control
             && not (is_off_below_zero self.now.mpu.control (is_below_zero self.now.nvic))) }
     {
-        uses_regions(self.mpu.control(), self.levels.is_below_zero())
+        uses_regions(self.mpu.control(), self.exceptions.is_below_zero())
     }
 
     /// Reads a special register as MRS does.
     pub fn read_special(&self, regs: &Regs, register: SpecialRegister) -> u32
         ensures { result ≡ special.read_special regs.now self.now.nvic.masks register }
     {
-        special::read_special(regs, self.levels.masks(), register)
+        special::read_special(regs, self.exceptions.masks(), register)
     }
 
     /// Writes a special register as MSR does, with the privilege of `regs`.
@@ -311,7 +310,7 @@ impl<D: Decider, L: Levels, U: DueTicks> System<D, L, U> {
         ensures system { self.new ≡ with_nvic self.old
             (special.write_mask (is_privileged regs.old) self.old.nvic register value) }
     {
-        special::write_mask(&mut self.levels, regs.is_privileged(), register, value);
+        special::write_mask(&mut self.exceptions, regs.is_privileged(), register, value);
         special::write_special(regs, register, value);
     }
 
@@ -320,7 +319,7 @@ impl<D: Decider, L: Levels, U: DueTicks> System<D, L, U> {
         ensures registers { regs.new ≡ with_special regs.old register value }
         ensures system { self.new ≡ with_nvic self.old (with_mask self.old.nvic register value) }
     {
-        special::set_mask(&mut self.levels, register, value);
+        special::set_mask(&mut self.exceptions, register, value);
         special::set_special(regs, register, value);
     }
 
@@ -328,28 +327,28 @@ impl<D: Decider, L: Levels, U: DueTicks> System<D, L, U> {
     pub fn change_state(&mut self, privileged: bool, operands: &ChangeProcessorState)
         ensures { self.new ≡ with_nvic self.old (special.change_state privileged self.old.nvic operands.now) }
     {
-        special::change_state(&mut self.levels, privileged, operands);
+        special::change_state(&mut self.exceptions, privileged, operands);
     }
 
     /// Makes an exception pending.
     pub fn pend(&mut self, number: u16)
         ensures { self.new ≡ with_nvic self.old (with_pending self.old.nvic number true) }
     {
-        self.levels.pend(number);
+        self.exceptions.pend(number);
     }
 
     /// Makes an exception no longer pending.
     pub fn clear(&mut self, number: u16)
         ensures { self.new ≡ with_nvic self.old (with_pending self.old.nvic number false) }
     {
-        self.levels.clear(number);
+        self.exceptions.clear(number);
     }
 
     /// Makes an exception active.
     pub fn activate(&mut self, number: u16)
         ensures { self.new ≡ with_nvic self.old (with_active self.old.nvic number true) }
     {
-        self.levels.activate(number);
+        self.exceptions.activate(number);
     }
 
     /// Makes an exception inactive, and pending again where its interrupt is high: `DeActivate()`.
@@ -358,7 +357,7 @@ impl<D: Decider, L: Levels, U: DueTicks> System<D, L, U> {
         ensures { self.new ≡ deactivated self.old number }
     {
         let is_held = self.is_held(number);
-        self.levels.deactivate(number);
+        self.exceptions.deactivate(number);
         if is_held {
             self.pend(number);
         }
@@ -369,7 +368,7 @@ impl<D: Decider, L: Levels, U: DueTicks> System<D, L, U> {
         ensures { result ≡ spec.is_held self.now number }
     {
         number >= FIRST_INTERRUPT
-            && number - FIRST_INTERRUPT < u16::from(self.levels.interrupts())
+            && number - FIRST_INTERRUPT < u16::from(self.exceptions.interrupts())
             && self.clock.high((number - FIRST_INTERRUPT) as u8)
     }
 
@@ -377,7 +376,7 @@ impl<D: Decider, L: Levels, U: DueTicks> System<D, L, U> {
     pub fn clear_faultmask(&mut self)
         ensures { self.new ≡ with_nvic self.old (with_faultmask self.old.nvic false) }
     {
-        self.levels.set_faultmask(false);
+        self.exceptions.set_faultmask(false);
     }
 
     /// Sets bits of CFSR and HFSR, as a fault does.
@@ -435,7 +434,7 @@ impl<D: Decider, L: Levels, U: DueTicks> System<D, L, U> {
             return Performed::bus_error(rule);
         }
         if !has_width(register, request.access.size) {
-            return Performed::Stop(Stop::OutOfProfile(LeftOut::RegisterWidth));
+            return Performed::Stop(Stop::OutOfProfile(Unsupported::RegisterWidth));
         }
         if !request.access.kind.is_store() {
             let word = self.read(exception, register);
@@ -468,10 +467,14 @@ impl<D: Decider, L: Levels, U: DueTicks> System<D, L, U> {
         match register {
             SystemRegister::SysTick(register) => read_systick(&mut self.clock, register),
             SystemRegister::Interrupts(register, word) => {
-                read_interrupts(&self.levels, register, word)
+                read_interrupts(&self.exceptions, register, word)
             }
-            SystemRegister::Priorities(first) => read_priorities(&self.levels, first),
-            SystemRegister::Control(register) => read_control(&self.levels, exception, register),
+            SystemRegister::Priorities(first) => read_priorities(&self.exceptions, first),
+            SystemRegister::Control(register) => read_control(
+                &self.exceptions,
+                exception,
+                register,
+            ),
             SystemRegister::Status(register) => self.status.read(register),
             SystemRegister::Mpu(register) => self.mpu.read_reg(register),
             SystemRegister::Unlisted => 0,
@@ -488,11 +491,11 @@ impl<D: Decider, L: Levels, U: DueTicks> System<D, L, U> {
         match register {
             SystemRegister::SysTick(register) => write_systick(&mut self.clock, register, value),
             SystemRegister::Interrupts(register, word) => {
-                write_interrupts(&mut self.levels, register, word, value);
+                write_interrupts(&mut self.exceptions, register, word, value);
             }
             SystemRegister::Priorities(first) => self.write_priorities(request, first),
             SystemRegister::Control(register) => {
-                return write_control(&mut self.levels, register, value);
+                return write_control(&mut self.exceptions, register, value);
             }
             SystemRegister::Status(register) => {
                 return self.status.write(register, in_place(request));
@@ -512,7 +515,7 @@ impl<D: Decider, L: Levels, U: DueTicks> System<D, L, U> {
     {
         let number = u16::from(first) + first_byte(request) as u16;
         write_priorities(
-            &mut self.levels,
+            &mut self.exceptions,
             number,
             request.value,
             request.access.size.bytes(),

@@ -1,10 +1,10 @@
 //! SYST_CSR, SYST_RVR and SYST_CVR.
 
 ghost use Rattle.std.specs.Prelude.{◌≡◌};
-ghost use Rattle.clock.specs.DueTicks.{IsRight};
+ghost use Rattle.clock.specs.DueTick.{DueTickIsExact};
 ghost use Rattle.platform.specs.SysTickRegisters as spec;
 
-use clock::{Clock, DueTicks};
+use clock::{Clock, SysTickState};
 use platform::system::SysTickRegister;
 
 /// Returns the register at the address of a word, if it is one of these.
@@ -22,12 +22,12 @@ pub fn systick_at(word: u32) -> Option<SysTickRegister>
 
 /// Reads a register; a read of SYST_CSR clears COUNTFLAG.
 #[tactic(auto, unfolding(crate::proofs::SysTickReads::value_and_effect))]
-pub fn read_systick<U: DueTicks>(clock: &mut Clock<U>, register: SysTickRegister) -> u32
-    requires { IsRight clock.old }
+pub fn read_systick<U: SysTickState>(clock: &mut Clock<U>, register: SysTickRegister) -> u32
+    requires { DueTickIsExact clock.old }
     ensures value { result ≡ spec.read_systick clock.old.time.systick register }
     ensures time { clock.new.time
         ≡ record clock.old.time { systick = spec.after_systick_read clock.old.time.systick register } }
-    ensures right { IsRight clock.new }
+    ensures right { DueTickIsExact clock.new }
 {
     match register {
         SysTickRegister::Csr => clock.read_csr(),
@@ -38,10 +38,10 @@ pub fn read_systick<U: DueTicks>(clock: &mut Clock<U>, register: SysTickRegister
 
 /// Writes a register.
 #[tactic(auto, unfolding(platform::specs::SysTickRegisters::write_systick))]
-pub fn write_systick<U: DueTicks>(clock: &mut Clock<U>, register: SysTickRegister, value: u32)
+pub fn write_systick<U: SysTickState>(clock: &mut Clock<U>, register: SysTickRegister, value: u32)
     ensures time { clock.new.time
         ≡ record clock.old.time { systick = spec.write_systick clock.old.time.systick register value } }
-    ensures right { IsRight clock.new }
+    ensures right { DueTickIsExact clock.new }
 {
     match register {
         SysTickRegister::Csr => clock.write_csr(value),

@@ -1,3 +1,3 @@
-mod Hearing
+mod Answering
 pub mod Lifting
-pub mod Telling
+pub mod Delivering

@@ -16,29 +16,29 @@ pub record Conduct (A : Type 0) : Type 0 where
   pub at_end : A → State → List Piece
 
 -- a session between two bytes
-pub record Talk (A : Type 0) : Type 0 where
+pub record SessionState (A : Type 0) : Type 0 where
   pub kept : A
   pub state : State
 
 -- after a byte the machine is in the state of the last piece
-abbrev pub next : {A : Type 0} → Conduct A → Talk A → ℕ → Talk A
+abbrev pub next : {A : Type 0} → Conduct A → SessionState A → ℕ → SessionState A
 next c t byte = record {
   kept = c.kept t.kept t.state byte;
   state = last_state t.state (c.answered t.kept t.state byte);
 }
 
 -- no byte is read once the session is closed
-unfoldable pub after_bytes : {A : Type 0} → Conduct A → Talk A → List ℕ → Talk A
+unfoldable pub after_bytes : {A : Type 0} → Conduct A → SessionState A → List ℕ → SessionState A
 after_bytes c t [] = t
 after_bytes c t (byte ∷ bytes) = if c.is_open t.kept then after_bytes c (next c t byte) bytes else t
 
-unfoldable pub answers : {A : Type 0} → Conduct A → Talk A → List ℕ → List Piece
+unfoldable pub answers : {A : Type 0} → Conduct A → SessionState A → List ℕ → List Piece
 answers c t [] = []
 answers c t (byte ∷ bytes) =
     if c.is_open t.kept then c.answered t.kept t.state byte ++ answers c (next c t byte) bytes else []
 
 -- at the end of the input
-abbrev pub end_answers : {A : Type 0} → Conduct A → Talk A → List Piece
+abbrev pub end_answers : {A : Type 0} → Conduct A → SessionState A → List Piece
 end_answers c t = c.at_end t.kept t.state
 
 -- what a session makes of its input from there on

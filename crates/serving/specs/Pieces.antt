@@ -1,7 +1,7 @@
 -- Pieces of text, each with the state of the machine by the time that it is written (profile).
 use Rattle.std.specs.Prelude.{◌≡◌, ℕ, ◌+◌, List, [], ◌∷◌, ◌++◌, Result, Ok, Err}
 use Rattle.std.specs.Io.KnownBytes.{Appends}
-use Rattle.machine.specs.Whole.{Whole}
+use Rattle.machine.specs.MachineModel.{MachineModel}
 use Rattle.output.specs.Output.{IsCutAfter, Writing}
 use Rattle.reference.specs.State.{State}
 
@@ -23,13 +23,13 @@ last_state s (p ∷ ps) = last_state p.state ps
 -- ---- what of the pieces went out
 
 -- all pieces went out, and the machine is in the state of the last one
-pub record TellsAll (pieces : List Piece) (old new : Whole) (before after : Writing) : Type 0 where
+pub record DeliversAll (pieces : List Piece) (old new : MachineModel) (before after : Writing) : Type 0 where
   pub went : Appends before.written after.written (texts pieces)
   pub stands : new ≡ record old { state = last_state old.state pieces }
   pub quiet : after.errors ≡ before.errors
 
 -- a call failed in one of the pieces: those before it went out, and a prefix of it, and the machine is in its state
-pub record TellsPart (pieces : List Piece) (old new : Whole) (before after : Writing) : Type 0 where
+pub record DeliversPart (pieces : List Piece) (old new : MachineModel) (before after : Writing) : Type 0 where
   pub done : List Piece
   pub piece : Piece
   pub others : List Piece
@@ -39,11 +39,12 @@ pub record TellsPart (pieces : List Piece) (old new : Whole) (before after : Wri
   pub failed : after.errors ≡ before.errors + 1
 
 -- all pieces were put, and a call failed after them; the machine is in the state of the last one
-pub record TellsAllThenFails (pieces : List Piece) (old new : Whole) (before after : Writing) : Type 0 where
+pub record DeliversAllThenFails (pieces : List Piece) (old new : MachineModel) (before after : Writing) : Type 0 where
   pub put : Appends before.written after.written (texts pieces)
   pub stands : new ≡ record old { state = last_state old.state pieces }
   pub failed : after.errors ≡ before.errors + 1
 
-abbrev pub Tells : {A E : Type 0} → List Piece → Whole → Whole → Writing → Writing → Result A E → Type 0
-Tells pieces old new before after (Ok done) = TellsAll pieces old new before after
-Tells pieces old new before after (Err error) = TellsPart pieces old new before after
+abbrev pub Delivers : {A E : Type 0} → List Piece → MachineModel → MachineModel → Writing → Writing → Result A E
+    → Type 0
+Delivers pieces old new before after (Ok done) = DeliversAll pieces old new before after
+Delivers pieces old new before after (Err error) = DeliversPart pieces old new before after

@@ -4,8 +4,8 @@ use Rattle.std.specs.Prelude.{Option, Some, None, Result, Ok, Err}
 use Rattle.std.specs.Io.KnownBytes.{Consumes, IsAtEnd, Keeps}
 use Rattle.serving.specs.declared.sessions.SessionError.{SessionError}
 use Rattle.serving.specs.declared.sessions.SessionError.TheVariants.{Read, Write}
-use Rattle.serving.specs.Pieces.{Piece, TellsAll, TellsAllThenFails, TellsPart}
-use Rattle.machine.specs.Whole.{Whole}
+use Rattle.serving.specs.Pieces.{Piece, DeliversAll, DeliversAllThenFails, DeliversPart}
+use Rattle.machine.specs.MachineModel.{MachineModel}
 use Rattle.output.specs.Input.{Reading}
 use Rattle.output.specs.Output.{Writing}
 
@@ -21,14 +21,14 @@ pub record Course : Type 0 where
 -- ---- reading and sending
 
 -- the bytes that a session read are those that the reader returned, and no call of it failed
-pub record Hears (given : List ℕ) (before after : Reading) : Type 0 where
+pub record ReadsBytes (given : List ℕ) (before after : Reading) : Type 0 where
   pub gave : Consumes before.left after.left given
   pub quiet : after.misses ≡ before.misses
 
 -- one byte, or the end of the input; or a call that failed
 abbrev pub GivesNext : Reading → Reading → Option ℕ → Type 0
-GivesNext before after (Some byte) = Hears (byte ∷ []) before after
-GivesNext before after None = Hears [] before after × IsAtEnd after.left
+GivesNext before after (Some byte) = ReadsBytes (byte ∷ []) before after
+GivesNext before after None = ReadsBytes [] before after × IsAtEnd after.left
 
 abbrev pub GivesByte : {E : Type 0} → Reading → Reading → Result (Option ℕ) E → Type 0
 GivesByte before after (Ok next) = GivesNext before after next
@@ -76,19 +76,21 @@ Ends t given after pieces =
     ⊎ (length given ≡ 2 ^ 64 - 1) × (pieces ≡ t.answers given))
 
 -- the whole session: the answers to what was read went out
-pub record Holds (t : Course) (old new : Whole) (before after : Reading) (out out' : Writing) : Type 0 where
-  pub given : List ℕ
-  pub heard : Hears given before after
-  pub pieces : List Piece
-  pub ends : Ends t given after pieces
-  pub tells : TellsAll pieces old new out out'
+pub record HoldsSession (t : Course) (old new : MachineModel) (before after : Reading) (out out' : Writing) : Type 0
+  where
+    pub given : List ℕ
+    pub given_read : ReadsBytes given before after
+    pub pieces : List Piece
+    pub ends : Ends t given after pieces
+    pub delivers : DeliversAll pieces old new out out'
 
 -- the reader failed: what it returned before was read, and is answered
-pub record FailsToRead (t : Course) (old new : Whole) (before after : Reading) (out out' : Writing) : Type 0 where
-  pub given : List ℕ
-  pub gave : Consumes before.left after.left given
-  pub missed : after.misses ≡ before.misses + 1
-  pub tells : TellsAll (t.answers given) old new out out'
+pub record FailsToRead (t : Course) (old new : MachineModel) (before after : Reading) (out out' : Writing) : Type 0
+  where
+    pub given : List ℕ
+    pub gave : Consumes before.left after.left given
+    pub missed : after.misses ≡ before.misses + 1
+    pub delivers : DeliversAll (t.answers given) old new out out'
 
 -- the pieces so far: the answers to what was read, with those at the end of the input where it is there
 abbrev pub AreSoFar : Course → List ℕ → Reading → List Piece → Type 0
@@ -96,21 +98,23 @@ AreSoFar t given after pieces =
     (pieces ≡ t.answers given) ⊎ (IsAtEnd after.left × (pieces ≡ t.all_answers given))
 
 -- the answers to what was read were put, and the call failed that was to send those that wait
-pub record FailsToHandOn (t : Course) (given : List ℕ) (old new : Whole) (after : Reading) (out out' : Writing)
+pub record FailsToHandOn (t : Course) (given : List ℕ) (old new : MachineModel) (after : Reading) (out out' : Writing)
     : Type 0 where
   pub pieces : List Piece
   pub so_far : AreSoFar t given after pieces
-  pub tells : TellsAllThenFails pieces old new out out'
+  pub delivers : DeliversAllThenFails pieces old new out out'
 
 -- the writer failed in the answers to what was read, or after all of them
-pub record FailsToWrite (t : Course) (old new : Whole) (before after : Reading) (out out' : Writing) : Type 0 where
-  pub given : List ℕ
-  pub heard : Hears given before after
-  pub tells : TellsPart (t.all_answers given) old new out out' ⊎ FailsToHandOn t given old new after out out'
+pub record FailsToWrite (t : Course) (old new : MachineModel) (before after : Reading) (out out' : Writing) : Type 0
+  where
+    pub given : List ℕ
+    pub given_read : ReadsBytes given before after
+    pub delivers : DeliversPart (t.all_answers given) old new out out' ⊎ FailsToHandOn t given old new after out out'
 
 -- a session from there on
 abbrev pub Sessions
-    : Course → Whole → Whole → Reading → Reading → Writing → Writing → Result (Unit {0}) SessionError → Type 0
-Sessions t old new before after out out' (Ok done) = Holds t old new before after out out'
+    : Course → MachineModel → MachineModel → Reading → Reading → Writing → Writing → Result (Unit {0}) SessionError
+    → Type 0
+Sessions t old new before after out out' (Ok done) = HoldsSession t old new before after out out'
 Sessions t old new before after out out' (Err Read) = FailsToRead t old new before after out out'
 Sessions t old new before after out out' (Err Write) = FailsToWrite t old new before after out out'

@@ -3,12 +3,12 @@
 ghost use Rattle.std.specs.Prelude.{◌≡◌, OnOk};
 ghost use Rattle.reference.specs.State.{State};
 ghost use Rattle.serving.specs.Conduct.{Conduct};
-ghost use Rattle.serving.specs.Pieces.{Tells};
+ghost use Rattle.serving.specs.Pieces.{Delivers};
 
-use machine::{Decider, DueTicks, IoError, KeptCode, Levels, Machine, Out};
+use machine::{Decider, Exceptions, IoError, KeptCode, Machine, Out, SysTickState};
 
 /// A protocol: what is kept between two bytes, and what each byte makes the machine do and the session write.
-pub trait Protocol<L: Levels, U: DueTicks> {
+pub trait Protocol<L: Exceptions, U: SysTickState> {
     ghost conduct: { Conduct Self };
 
     ghost ready: { Self → State → Type 0 };
@@ -18,14 +18,14 @@ pub trait Protocol<L: Levels, U: DueTicks> {
         ensures { result ≡ conduct.is_open self.now };
 
     /// Takes a byte of the input, and writes its answers.
-    fn hear<D: Decider, C: KeptCode, W: Out>(
+    fn answer_byte<D: Decider, C: KeptCode, W: Out>(
         &mut self,
         machine: &mut Machine<D, C, L, U>,
         byte: u8,
         out: &mut W,
     ) -> Result<(), IoError>
         requires { ready self.old machine.old.state }
-        ensures tells { Tells (conduct.answered self.old machine.old.state byte) machine.old machine.new
+        ensures delivers { Delivers (conduct.answered self.old machine.old.state byte) machine.old machine.new
             (W.writing out.old) (W.writing out.new) result }
         ensures kept { OnOk result (self.new ≡ conduct.kept self.old machine.old.state byte) }
         ensures ready { OnOk result (ready self.new machine.new.state) };
@@ -37,6 +37,6 @@ pub trait Protocol<L: Levels, U: DueTicks> {
         out: &mut W,
     ) -> Result<(), IoError>
         requires { ready self.old machine.old.state }
-        ensures { Tells (conduct.at_end self.old machine.old.state) machine.old machine.new
+        ensures { Delivers (conduct.at_end self.old machine.old.state) machine.old machine.new
             (W.writing out.old) (W.writing out.new) result };
 }

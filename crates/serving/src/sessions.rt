@@ -5,7 +5,7 @@ ghost use Rattle.serving.specs.Conduct.{course_of};
 ghost use Rattle.serving.specs.Sessions.{GivesByte, NothingWaits, SendsBefore, SendsRest, Sessions, TakesNext};
 
 use crate::protocol::Protocol;
-use machine::{Decider, DueTicks, In, IoError, KeptCode, Levels, Machine, Out};
+use machine::{Decider, Exceptions, In, IoError, KeptCode, Machine, Out, SysTickState};
 
 /// Why a session ends before its input does.
 #[derive(Clone, Copy)]
@@ -19,7 +19,15 @@ pub enum SessionError {
 /// Reads bytes, and writes what a protocol answers to each of them, to the end of the input, or until the protocol
 /// reads no further. What waits to be sent is sent before a call of the reader that may wait, and at the end. Where
 /// the reader or the writer fails, the machine is in its state after the steps and the changes that were made.
-pub fn serve<P: Protocol<L, U>, D: Decider, C: KeptCode, L: Levels, U: DueTicks, I: In, W: Out>(
+pub fn serve<
+    P: Protocol<L, U>,
+    D: Decider,
+    C: KeptCode,
+    L: Exceptions,
+    U: SysTickState,
+    I: In,
+    W: Out,
+>(
     protocol: &mut P,
     machine: &mut Machine<D, C, L, U>,
     reader: &mut I,
@@ -27,7 +35,7 @@ pub fn serve<P: Protocol<L, U>, D: Decider, C: KeptCode, L: Levels, U: DueTicks,
 ) -> Result<(), SessionError>
     requires open { (P.conduct).is_open protocol.old ≡ true }
     requires ready { P.ready protocol.old machine.old.state }
-    ensures talked { Sessions (course_of P.conduct protocol.old machine.old.state) machine.old machine.new
+    ensures held { Sessions (course_of P.conduct protocol.old machine.old.state) machine.old machine.new
         (I.reading reader.old) (I.reading reader.new) (W.writing out.old) (W.writing out.new) result }
     ensures sent { NothingWaits (W.writing out.new) result }
 {
@@ -43,7 +51,7 @@ pub fn serve<P: Protocol<L, U>, D: Decider, C: KeptCode, L: Levels, U: DueTicks,
             }
             Err(error) => return Err(error),
         };
-        match protocol.hear(machine, byte, out) {
+        match protocol.answer_byte(machine, byte, out) {
             Ok(()) => {}
             Err(_) => return Err(SessionError::Write),
         }
@@ -58,7 +66,7 @@ pub fn serve<P: Protocol<L, U>, D: Decider, C: KeptCode, L: Levels, U: DueTicks,
 fn send_rest<W: Out>(out: &mut W) -> Result<(), SessionError>
     ensures { SendsRest (W.writing out.old) (W.writing out.new) result }
 {
-    match out.hand_on() {
+    match out.flush_all() {
         Ok(()) => Ok(()),
         Err(_) => Err(SessionError::Write),
     }
@@ -69,7 +77,7 @@ fn send_before<I: In, W: Out>(reader: &I, out: &mut W) -> Result<(), IoError>
     ensures { SendsBefore (I.reading reader.now) (W.writing out.old) (W.writing out.new) result }
 {
     if reader.may_wait() {
-        return out.hand_on();
+        return out.flush_all();
     }
     Ok(())
 }

@@ -7,7 +7,7 @@ use Rattle.nvic.proofs.Best.{candidate_is}
 use Rattle.nvic.proofs.Boards.{at_each}
 use Rattle.nvic.proofs.Changes.{pended_kept}
 use Rattle.nvic.proofs.Least.{highest_alike}
-use Rattle.nvic.specs.Laws.{IsReady, IsCandidate}
+use Rattle.nvic.specs.Laws.{IsPendingAndEnabled, IsCandidate}
 use Rattle.platform.specs.declared.exception.Escalation.{Escalation}
 use Rattle.platform.specs.declared.exception.Escalation.TheVariants.{Itself, HardFault, Lockup}
 use Rattle.platform.specs.declared.exception.TheConstants.{EXCEPTIONS, HARD_FAULT}
@@ -20,7 +20,7 @@ use Rattle.platform.specs.System.{with_pended}
 -- an exception preempts
 record Preempts (n : Nvic) : Type 0 where
   number : ℕ
-  ready : IsReady n number
+  ready : IsPendingAndEnabled n number
   above : group_priority n number < execution_priority n
 
 -- there is a candidate

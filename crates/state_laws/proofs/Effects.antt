@@ -51,9 +51,9 @@ use Rattle.reference.specs.Invariant.{IsStackPointer, IsCodeAddress}
 use Rattle.reference.specs.LoadStore.{with_base, load_store_effect, offset_address}
 use Rattle.reference.specs.LoadStoreMultiple.{registers_below, with_moved_base, moved_base, loaded, loaded_below_pc}
 use Rattle.reference.specs.LoadStoreMultiple.{load_multiple, load_store_multiple_effect}
-use Rattle.reference.specs.ProgramCounter.{moves_on, Finished, advanced, branches, branches_by, is_exception_return}
+use Rattle.reference.specs.ProgramCounter.{advances, Finished, advanced, branches, branches_by, is_exception_return}
 use Rattle.reference.specs.ProgramCounter.{exchanges, loads_into}
-use Rattle.reference.specs.SystemInstructions.{hint_ending, system_effect, moves_on_and}
+use Rattle.reference.specs.SystemInstructions.{hint_ending, system_effect, advances_and}
 
 -- ---- values
 
@@ -122,13 +122,13 @@ module _ {P : Registers → Type 0} (k : KeepsWrites P) where
       (λ e. cond_both (n == 14) _ _ P (λ f. k.lr r (low_word v) word p)
       (λ f. cond_both (n == 15) _ _ P (λ g. pc_kept r v p) (λ g. k.general r n (low_word v) word p)))
 
-  pub moves_on_kept : (length : InstructionLength) (r : Registers) → P r → Leaves P (moves_on length r)
-  moves_on_kept length r p = record { kept = k.next (advanced r) length (k.advanced r p); ending = tt }
+  pub advances_kept : (length : InstructionLength) (r : Registers) → P r → Leaves P (advances length r)
+  advances_kept length r p = record { kept = k.next (advanced r) length (k.advanced r p); ending = tt }
 
   -- the PC moves past the instruction, which ends with e
-  moves_on_and_kept : (e : Ending) (length : InstructionLength) (r : Registers) →
-      IsEndIn (moves_on length r).registers e → P r → Leaves P (moves_on_and e length r)
-  moves_on_and_kept e length r end p = record { kept = (moves_on_kept length r p).kept; ending = end }
+  advances_and_kept : (e : Ending) (length : InstructionLength) (r : Registers) →
+      IsEndIn (advances length r).registers e → P r → Leaves P (advances_and e length r)
+  advances_and_kept e length r end p = record { kept = (advances_kept length r p).kept; ending = end }
 
   branches_kept : (r : Registers) → P r → Leaves P (branches r)
   branches_kept r p = record { kept = k.advanced r p; ending = tt }
@@ -147,7 +147,7 @@ module _ {P : Registers → Type 0} (k : KeepsWrites P) where
       Leaves P (loads_into length t value r)
   loads_into_kept length t value r p =
       cond_both (t == 15) _ _ (Leaves P) (λ e. exchanges_kept value r p)
-      (λ e. moves_on_kept length (with_register r t value) (register_kept r t value p))
+      (λ e. advances_kept length (with_register r t value) (register_kept r t value p))
 
   -- ---- the instructions that compute
 
@@ -171,7 +171,7 @@ module _ {P : Registers → Type 0} (k : KeepsWrites P) where
   data_kept length i r h =
       let after = processed_kept i r h in
       cond_both (writes_pc i) _ _ (Leaves P) (λ e. branches_kept (processed i r) after)
-      (λ e. moves_on_kept length (processed i r) after)
+      (λ e. advances_kept length (processed i r) after)
 
   -- ---- loads and stores
 
@@ -187,8 +187,8 @@ module _ {P : Registers → Type 0} (k : KeepsWrites P) where
   load_store_kept length (load_store.LoadRegister o) r values h = loads_into_kept length o.target _ r h
   load_store_kept length (load_store.LoadLiteral o) r values h = loads_into_kept length o.target _ r h
   load_store_kept length (load_store.StoreImmediate o) r values h =
-      moves_on_kept length (with_base o.address r) (base_kept o.address r h)
-  load_store_kept length (load_store.StoreRegister o) r values h = moves_on_kept length r h
+      advances_kept length (with_base o.address r) (base_kept o.address r h)
+  load_store_kept length (load_store.StoreRegister o) r values h = advances_kept length r h
 
   moved_kept : (writes : Bool) (n : ℕ) (order : ListOrder) (list : ℕ) (r : Registers) → P r →
       P (with_moved_base writes n order list r)
@@ -209,30 +209,30 @@ module _ {P : Registers → Type 0} (k : KeepsWrites P) where
       let moved = moved_kept o.write_back o.base o.order o.list r h in
       let below = loaded_kept (registers_below 15 o.list) values _ moved in
       cond_both (is_bit o.list 15) _ _ (Leaves P) (λ e. exchanges_kept _ (loaded_below_pc o values r) below)
-      (λ e. moves_on_kept length (loaded_below_pc o values r) below)
+      (λ e. advances_kept length (loaded_below_pc o values r) below)
 
   multiple_kept : (length : InstructionLength) (i : LoadStoreMultiple) (r : Registers) (values : List ℕ) → P r →
       Leaves P (load_store_multiple_effect length i r values)
   unfolding load_store_multiple_effect
   multiple_kept length (multiple.LoadDual o) r values h =
-      moves_on_kept length _
+      advances_kept length _
       (loaded_kept (o.first ∷ o.second ∷ []) values (with_base o.address r) (base_kept o.address r h))
   multiple_kept length (multiple.LoadDualLiteral o) r values h =
-      moves_on_kept length _ (loaded_kept (o.first ∷ o.second ∷ []) values r h)
+      advances_kept length _ (loaded_kept (o.first ∷ o.second ∷ []) values r h)
   multiple_kept length (multiple.StoreDual o) r values h =
-      moves_on_kept length (with_base o.address r) (base_kept o.address r h)
+      advances_kept length (with_base o.address r) (base_kept o.address r h)
   multiple_kept length (multiple.LoadMultiple o) r values h = load_multiple_kept length o values r h
   multiple_kept length (multiple.StoreMultiple o) r values h =
-      moves_on_kept length _ (moved_kept o.write_back o.base o.order o.list r h)
+      advances_kept length _ (moved_kept o.write_back o.base o.order o.list r h)
 
   exclusive_kept : (length : InstructionLength) (i : Exclusive) (r : Registers) (values : List ℕ) → P r →
       Leaves P (exclusive_effect length i r values)
   unfolding exclusive_effect
   exclusive_kept length (exclusive.Load o) r values h =
-      moves_on_kept length _ (register_kept _ o.target _ (k.monitor r _ h))
+      advances_kept length _ (register_kept _ o.target _ (k.monitor r _ h))
   exclusive_kept length (exclusive.Store o) r values h =
-      moves_on_kept length _ (register_kept _ o.status _ (k.monitor r _ h))
-  exclusive_kept length exclusive.Clear r values h = moves_on_kept length _ (k.monitor r _ h)
+      advances_kept length _ (register_kept _ o.status _ (k.monitor r _ h))
+  exclusive_kept length exclusive.Clear r values h = advances_kept length _ (k.monitor r _ h)
 
   -- ---- branches and the rest
 
@@ -245,7 +245,7 @@ module _ {P : Registers → Type 0} (k : KeepsWrites P) where
   branch_kept length (branch.Immediate o) r values h = branches_by_kept o.offset r h
   branch_kept length (branch.Conditional o) r values h =
       cond_both (condition_holds o.condition r.flags) _ _ (Leaves P) (λ e. branches_by_kept o.offset r h)
-      (λ e. moves_on_kept length r h)
+      (λ e. advances_kept length r h)
   branch_kept length (branch.WithLink o) r values h =
       branches_by_kept o.offset (with_link length r) (link_kept length r h)
   branch_kept length (branch.Exchange o) r values h =
@@ -254,7 +254,7 @@ module _ {P : Registers → Type 0} (k : KeepsWrites P) where
       (exchange_kept (with_link length r) (register r o.target) (link_kept length r h)))
       (λ e. exchanges_kept (register r o.target) r h)
   branch_kept length (branch.CompareAndBranch o) r values h =
-      cond_both (takes_branch o r) _ _ (Leaves P) (λ e. branches_by_kept o.offset r h) (λ e. moves_on_kept length r h)
+      cond_both (takes_branch o r) _ _ (Leaves P) (λ e. branches_by_kept o.offset r h) (λ e. advances_kept length r h)
   branch_kept length (branch.Table o) r values h = branches_by_kept _ r h
   branch_kept length (branch.IfThen o) r values h =
       let begins : P (record r { it_state = begun o }) = k.it_state r (begun o) (omega arith) h in
@@ -262,11 +262,11 @@ module _ {P : Registers → Type 0} (k : KeepsWrites P) where
 
   system_kept : (length : InstructionLength) (i : System) (r : Registers) → P r → Leaves P (system_effect length i r)
   unfolding system_effect
-  system_kept length (system.ChangeProcessorState o) r h = moves_on_and_kept _ length r tt h
-  system_kept length (system.MoveToSpecial o) r h = moves_on_and_kept _ length r tt h
-  system_kept length (system.MoveFromSpecial o) r h = moves_on_and_kept _ length r tt h
+  system_kept length (system.ChangeProcessorState o) r h = advances_and_kept _ length r tt h
+  system_kept length (system.MoveToSpecial o) r h = advances_and_kept _ length r tt h
+  system_kept length (system.MoveFromSpecial o) r h = advances_and_kept _ length r tt h
   system_kept length (system.Hint hint) r h =
-      moves_on_and_kept _ length r (hint_ends hint (moves_on length r).registers) h
+      advances_and_kept _ length r (hint_ends hint (advances length r).registers) h
   system_kept length (system.SupervisorCall number) r h = record { kept = h; ending = tt }
   system_kept length (system.Breakpoint number) r h = record { kept = h; ending = tt }
 
@@ -284,4 +284,4 @@ module _ {P : Registers → Type 0} (k : KeepsWrites P) where
   unfolding result_of
   result_kept i r values h =
       cond_both (is_carried_out i.instruction r) _ _ (Leaves P) (λ e. effect_kept i.length i.instruction r values h)
-      (λ e. moves_on_kept i.length r h)
+      (λ e. advances_kept i.length r h)

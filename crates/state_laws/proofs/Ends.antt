@@ -29,7 +29,7 @@ use Rattle.platform.specs.declared.access.Performed.{Performed}
 use Rattle.platform.specs.declared.access.Performed.TheVariants as performed
 use Rattle.platform.specs.declared.access.Request.{Request}
 use Rattle.platform.specs.declared.access.Rule.TheVariants.{PrivatePeripheralBus}
-use Rattle.platform.specs.declared.exception.TheConstants.{MOST_INTERRUPTS}
+use Rattle.platform.specs.declared.exception.TheConstants.{MAX_INTERRUPTS}
 use Rattle.platform.specs.declared.error.PlaceError.{PlaceError}
 use Rattle.reference.specs.declared.place.Place.{Place}
 use Rattle.reference.specs.declared.place.Place.TheVariants.{Reg, Special, Word}
@@ -201,8 +201,8 @@ regions_known count e = split (count == 8) refl
     split true f = inl (grind (arith, nat_tests, f))
     split false f = inr (grind (arith, nat_tests, e, f))
 
-all_interrupts : (interrupts : ℕ) → is_interrupt_count interrupts ≡ true → min interrupts MOST_INTERRUPTS ≡ interrupts
-all_interrupts interrupts e = let few : interrupts ≤ MOST_INTERRUPTS = grind (arith, nat_tests, e) in omega arith
+all_interrupts : (interrupts : ℕ) → is_interrupt_count interrupts ≡ true → min interrupts MAX_INTERRUPTS ≡ interrupts
+all_interrupts interrupts e = let few : interrupts ≤ MAX_INTERRUPTS = grind (arith, nat_tests, e) in omega arith
 
 pub start_gives : (board : Described) (image : List Segment) → IsBoard board → IfGiven Invariant (start board image)
 unfolding start
@@ -213,14 +213,15 @@ start_gives board image h =
       entry = λ stop entry. absurd (let w : ⊥ = cc in w);
       memory = start_laid_out board.numbers image h.flash h.ram h.second_ram;
       system =
-          sound (min board.numbers.interrupts MOST_INTERRUPTS) board.numbers.priority_bits
+          sound (min board.numbers.interrupts MAX_INTERRUPTS) board.numbers.priority_bits
           (reset_system board.numbers.flash_base board.numbers.interrupts board.numbers.priority_bits
           board.numbers.regions
           board.script board.devices)
-          (settled_kept (parts_kept (min board.numbers.interrupts MOST_INTERRUPTS) board.numbers.priority_bits) _ (record {
+          (settled_kept (parts_kept (min board.numbers.interrupts MAX_INTERRUPTS) board.numbers.priority_bits) _
+          (record {
             nvic = board_at_reset board.numbers.interrupts board.numbers.priority_bits;
             time =
-                timely_at_start (min board.numbers.interrupts MOST_INTERRUPTS) board.script
+                timely_at_start (min board.numbers.interrupts MAX_INTERRUPTS) board.script
                 (subst (λ interrupts. IsScriptFrom interrupts 1 board.script)
                 (sym (all_interrupts board.numbers.interrupts h.interrupts))
                 h.script);
@@ -324,10 +325,12 @@ pub alter_keeps : (s : State) (p : Place) → Invariant s → IfGiven Invariant 
 unfolding altered
 alter_keeps s p h =
     cond_both (not (is_word_aligned p)) _ _ (IfGiven Invariant) (λ e. tt)
-    (λ e. cond_both (not (is_there s.bus p)) _ _ (IfGiven Invariant) (λ f. tt) (λ f. split (is_plain s.bus.memory p) refl))
+    (λ e. cond_both (not (is_there s.bus p)) _ _ (IfGiven Invariant) (λ f. tt)
+    (λ f. split (is_plain s.bus.memory p) refl))
   where
     split : (b : Bool) → is_plain s.bus.memory p ≡ b
-        → IfGiven Invariant (if is_some s.stop || (not b && (is_some s.entry || is_handler s.registers)) then Err Stopped
+        → IfGiven Invariant
+        (if is_some s.stop || (not b && (is_some s.entry || is_handler s.registers)) then Err Stopped
         else taken s p)
     split true q =
         cond_both (is_some s.stop || false) _ _ (IfGiven Invariant) (λ g. tt) (λ g. plain_taken s p q h)

@@ -15,7 +15,7 @@ use Rattle.platform.specs.Kinds.{is_write}
 use Rattle.platform.specs.Map.{are_apart, is_for_memory, is_in_window, ram_base}
 use Rattle.platform.specs.Memory.{Memory, is_writable_at, bytes_of, overwritten}
 use Rattle.platform.specs.Outcomes.{Outcome}
-use Rattle.platform.specs.Space.{written_to, space_access}
+use Rattle.platform.specs.Space.{written_to, memory_access}
 use Rattle.space.specs.Spaces.{IsSecondInPlace, flash_block, ram_block}
 use Rattle.space.proofs.Blocks.{overwritten_laid_out}
 use Rattle.space.proofs.Places.{laid_out}
@@ -31,8 +31,8 @@ written_laid_out m rule q h =
     (λ f. overwritten_laid_out m q.access.address (bytes_of (bytes_in q.access.size) q.value) h) (λ f. h))
 
 pub space_laid_out : (m : Memory) (ticks : ℕ) (rule : Rule) (q : Request) → IsLaidOut m →
-    IsLaidOut (space_access m ticks rule q).after
-unfolding space_access
+    IsLaidOut (memory_access m ticks rule q).after
+unfolding memory_access
 space_laid_out m ticks rule q h =
     cond_both (is_write q.access.kind) _ _ LeavesLaidOut (λ e. written_laid_out m rule q h) (λ e. h)
 

@@ -6,7 +6,7 @@ use Rattle.nvic.proofs.Boards.{at_each, same_each, pending_of_board, active_of_b
 use Rattle.nvic.proofs.Boards.{priority_of_board, group_of_board, primask_of_board, faultmask_of_board}
 use Rattle.nvic.proofs.Boards.{basepri_of_board, reset_of_board}
 use Rattle.nvic.proofs.Changes.{IsKept}
-use Rattle.nvic.specs.Laws.{IsOfBoard}
+use Rattle.nvic.specs.Laws.{FitsBoard}
 use Rattle.platform.specs.declared.exception.TheConstants.{EXCEPTIONS}
 use Rattle.platform.specs.SystemInvariant.{KeepsTopBits, HasExceptionsOfBoard}
 use Rattle.platform.specs.Priorities.{Nvic, can_be_disabled, has_priority_byte, kept, with_enabled, with_priority}
@@ -17,7 +17,7 @@ use Rattle.platform.specs.Priorities.{reset_nvic}
 pub record HasBoard (interrupts bits : ℕ) (n : Nvic) : Type 0 where
   pub same_interrupts : n.interrupts ≡ interrupts
   pub same_bits : n.priority_bits ≡ bits
-  pub board : IsOfBoard n
+  pub board : FitsBoard n
   pub bytes : (x : ℕ) → slice_index n.priorities x < 2 ^ 8
   pub basepri : n.masks.basepri < 2 ^ 8
 
@@ -49,7 +49,7 @@ board_of n top sets = record {
 
 -- the change leaves the numbers of the board and the bytes
 same_bytes : (interrupts bits : ℕ) (n m : Nvic) → m.interrupts ≡ n.interrupts → m.priority_bits ≡ n.priority_bits →
-    m.priorities ≡ n.priorities → m.masks.basepri ≡ n.masks.basepri → HasBoard interrupts bits n → IsOfBoard m →
+    m.priorities ≡ n.priorities → m.masks.basepri ≡ n.masks.basepri → HasBoard interrupts bits n → FitsBoard m →
     HasBoard interrupts bits m
 same_bytes interrupts bits n m l k p b h is = record {
   same_interrupts = l ∙ h.same_interrupts;
@@ -66,7 +66,7 @@ kept_small bits b small = let less : kept bits b ≤ b = div-mul-le_self b (2 ^ 
 enabled_kept : (interrupts bits : ℕ) (n : Nvic) (x : ℕ) (on : Bool) → HasBoard interrupts bits n →
     HasBoard interrupts bits (with_enabled n x on)
 enabled_kept interrupts bits n x on h =
-    cond_both (can_be_disabled n.interrupts x) _ _ (λ m. IsOfBoard m → HasBoard interrupts bits m)
+    cond_both (can_be_disabled n.interrupts x) _ _ (λ m. FitsBoard m → HasBoard interrupts bits m)
     (λ e. same_bytes interrupts bits n _ refl refl refl refl h)
     (λ e. same_bytes interrupts bits n _ refl refl refl refl h)
     (enabled_of_board n x on h.board)
@@ -74,7 +74,7 @@ enabled_kept interrupts bits n x on h =
 priority_kept : (interrupts bits : ℕ) (n : Nvic) (x b : ℕ) → b < 2 ^ 8 → HasBoard interrupts bits n →
     HasBoard interrupts bits (with_priority n x b)
 priority_kept interrupts bits n x b small h =
-    cond_both (has_priority_byte n.interrupts x) _ _ (λ m. IsOfBoard m → HasBoard interrupts bits m)
+    cond_both (has_priority_byte n.interrupts x) _ _ (λ m. FitsBoard m → HasBoard interrupts bits m)
     (λ e is. record {
       same_interrupts = h.same_interrupts;
       same_bits = h.same_bits;

@@ -35,7 +35,7 @@ use Rattle.step_laws.proofs.StepRules.{FitsEntry, StepRules, after_access, step_
 use Rattle.state_laws.proofs.Accesses.{IsWholeBus, perform_whole}
 use Rattle.state_laws.proofs.Candidates.{Calls, Follows, escalation_follows, pended_calls, pending_calls}
 use Rattle.step_laws.proofs.Settling.{tick_nvic}
-use Rattle.state_laws.proofs.Effects.{moves_on_kept, register_kept, result_kept, sp_kept}
+use Rattle.state_laws.proofs.Effects.{advances_kept, register_kept, result_kept, sp_kept}
 use Rattle.state_laws.proofs.Entries.{IsCalled, IsFault, access_is, none, perform_leaves, some_none, usage_is}
 use Rattle.state_laws.proofs.Frames.{IsBelow, candidate_small, handler_kept, popped_kept}
 use Rattle.state_laws.proofs.Registers.{write_special_kept, writes_kept}
@@ -172,7 +172,7 @@ module _ (interrupts bits : ℕ) where
     result = λ s events i values h.
         with_registers_good s _ (result_kept writes_kept i s.registers values h.good.registers).kept h;
     moved = λ s events length h.
-        with_registers_good s _ (moves_on_kept writes_kept length s.registers h.good.registers).kept h;
+        with_registers_good s _ (advances_kept writes_kept length s.registers h.good.registers).kept h;
     special_read = λ s events o h.
         with_registers_good s _ (register_kept writes_kept s.registers o.destination _ h.good.registers) h;
     special_written = λ s events special value out h. record {

@@ -5,7 +5,7 @@ use Rattle.std.proofs.lemmas.List.{length-set, length-replicate}
 use Rattle.clock.proofs.Scripts.{applies_those}
 use Rattle.clock.proofs.Timers.{counted_bits}
 use Rattle.clock.specs.Laws.{IsSortedFrom}
-use Rattle.platform.specs.declared.exception.TheConstants.{MOST_INTERRUPTS}
+use Rattle.platform.specs.declared.exception.TheConstants.{MAX_INTERRUPTS}
 use Rattle.platform.specs.declared.script.ScriptedEvent.{ScriptedEvent}
 use Rattle.platform.specs.declared.script.Signal.{Signal}
 use Rattle.platform.specs.declared.script.Signal.TheVariants.{Rise, Fall, Pulse, Nmi, Poke}
@@ -89,5 +89,5 @@ pub timely_at_start : (interrupts : ℕ) (script : List ScriptedEvent) → IsScr
 timely_at_start interrupts script s = record {
   clock = omega arith;
   timer = record { reload = omega arith; current = omega arith };
-  ahead = record { script = s; high = length-replicate MOST_INTERRUPTS false };
+  ahead = record { script = s; high = length-replicate MAX_INTERRUPTS false };
 }

@@ -15,7 +15,7 @@ use Rattle.platform.specs.Kinds.{is_probe, is_write}
 use Rattle.platform.specs.Map.{is_in_ppb, is_in_window}
 use Rattle.platform.specs.Memory.{Memory, is_writable_at, bytes_of, overwritten}
 use Rattle.platform.specs.Outcomes.{Outcome, bus_error, done, unchanged, within}
-use Rattle.platform.specs.Space.{read_from, space_access, written_to, written_to_window}
+use Rattle.platform.specs.Space.{read_from, memory_access, written_to, written_to_window}
 use Rattle.platform.specs.System.{device_access, system_access}
 use Rattle.reference.specs.State.{Bus, State}
 use Rattle.reference.specs.Step.{step}
@@ -67,8 +67,8 @@ writing_writes tick q m rule writing =
     (λ e. stored tick q m rule writing) (λ e. left tick q m (bus_error rule)))
 
 space_writes : (tick ticks : ℕ) (q : Request) (m : Memory) (rule : Rule) →
-    Writes tick q m (space_access m ticks rule q)
-unfolding space_access
+    Writes tick q m (memory_access m ticks rule q)
+unfolding memory_access
 space_writes tick ticks q m rule =
     cond_both (is_write q.access.kind) _ _ (Writes tick q m) (writing_writes tick q m rule)
     (λ e. left tick q m (read_from m ticks rule q))

@@ -41,7 +41,7 @@ use Rattle.reference.specs.Faults.{access_fault, escalated, failed, fault_line, 
 use Rattle.reference.specs.Faults.{usage_fault_of, vector_fault, with_fault_address, with_status}
 use Rattle.reference.specs.State.{State, Stepped}
 use Rattle.reference.specs.Step.{step}
-use Rattle.step_laws.specs.AccessLaw.{NoneRefused, IsLineOf, EndsRefused, OneRefusal}
+use Rattle.step_laws.specs.AccessLaw.{NoneRefused, IsFaultLineOf, EndsRefused, OneRefusal}
 use Rattle.step_laws.proofs.Lines.{unrefused-nil, unrefused-cons, unrefused-append, LastRefused, EndIn, ends-append}
 use Rattle.step_laws.proofs.StepRules.{StepRules, failure_in, step_keeps}
 
@@ -124,7 +124,7 @@ bits_set x y bits e = rw e (and_or_self bits y)
 
 -- the line of a fault of the table, by what becomes of it
 line_of : (s : State) (f : FaultEffect) (x : ℕ) → (x ≡ f.exception) ⊎ ((x ≡ HARD_FAULT) ⊎ (x ≡ 0)) →
-    IsLineOf f (shown (recorded s f) x)
+    IsFaultLineOf f (shown (recorded s f) x)
 line_of s f x which = record {
   exception = which;
   cfsr = bits_set _ _ f.cfsr (recorded_bits s f).cfsr;
@@ -132,7 +132,7 @@ line_of s f x which = record {
 }
 
 forced_line : (s : State) (f : FaultEffect) → IsApart f →
-    IsLineOf f (shown (with_forced (recorded s f)) HARD_FAULT)
+    IsFaultLineOf f (shown (with_forced (recorded s f)) HARD_FAULT)
 forced_line s f apart = record {
   exception = inr (inl refl);
   cfsr = rw (or_zero_r (recorded s f).bus.system.status.cfsr) (bits_set _ _ f.cfsr (recorded_bits s f).cfsr);
@@ -150,7 +150,7 @@ fault_unrefused s events x unrefused = inl (line_added events (fault_line s x) r
 
 -- lines whose last is the refusal of an access, and the line of its fault
 refusal_ends : (access : Access) (cause : Cause) (s : State) (events : List Event) (x : ℕ) →
-    LastRefused access cause events → IsLineOf (fault_of access cause) (shown s x) →
+    LastRefused access cause events → IsFaultLineOf (fault_of access cause) (shown s x) →
     EndsRefused (events ++ fault_line s x ∷ [])
 refusal_ends access cause s events x last line = record {
   before = last.unrefused;
@@ -220,7 +220,7 @@ failed_refusal (failure.Stop why) s events none = inl none
 -- the vector of an exception was refused
 vector_line : (s : State) (access : Access) (cause : Cause) (x : ℕ) → access.kind ≡ Vector →
     (x ≡ HARD_FAULT) ⊎ ((x ≡ HARD_FAULT) ⊎ (x ≡ 0)) →
-    IsLineOf (fault_of access cause) (shown (recorded s vector_fault) x)
+    IsFaultLineOf (fault_of access cause) (shown (recorded s vector_fault) x)
 vector_line s access Mpu x kind which = rw kind (line_of s vector_fault x which)
 vector_line s access Bus x kind which = rw kind (line_of s vector_fault x which)
 

@@ -10,7 +10,7 @@ use Rattle.reference.specs.LoadStore.{request}
 use Rattle.platform.specs.Map.{is_in_ppb, is_in_window}
 use Rattle.platform.specs.Memory.{Memory, is_writable_at, number_at, bytes_of, overwritten}
 use Rattle.platform.specs.Outcomes.{Outcome, bus_error, within}
-use Rattle.platform.specs.Space.{number_read, space_access}
+use Rattle.platform.specs.Space.{number_read, memory_access}
 use Rattle.reference.specs.State.{Bus}
 use Rattle.platform.specs.System.{system_access}
 
@@ -35,7 +35,7 @@ IfPushed privileged a v b o = IfWritten privileged a v b.memory (within (λ (c :
 
 carried_push : (exception : ℕ) (b : Bus) (privileged : Bool) (a v : ℕ) (rule : Rule) →
     IfPushed privileged a v b (carried_out exception b rule (push_of privileged a v))
-unfolding carried_out system_access space_access
+unfolding carried_out system_access memory_access
 carried_push exception b privileged a v rule =
     cond_both (is_in_ppb a) _ _ (IfPushed privileged a v b) (λ e x done. absurd cc)
     (λ beside. cond_both (is_in_window a) _ _ (IfWritten privileged a v b.memory) (λ e x done. absurd cc)
@@ -72,7 +72,7 @@ number_popped privileged a x rule (Some value) done = cc
 
 carried_pop : (exception : ℕ) (b : Bus) (privileged : Bool) (a : ℕ) (rule : Rule) →
     IfPopped privileged a b (carried_out exception b rule (pop_of privileged a))
-unfolding carried_out system_access space_access
+unfolding carried_out system_access memory_access
 carried_pop exception b privileged a rule =
     cond_both (is_in_ppb a) _ _ (IfPopped privileged a b) (λ e x done. absurd cc)
     (λ beside x done. record { number = from_memory (is_in_window a) x done; same = refl })

@@ -63,13 +63,13 @@ use Rattle.reference.specs.ExceptionReturn.{pops, return_line, returned, unstack
 use Rattle.reference.specs.Faults.{failed, pended, supervisor_called, supervisor_called_by, with_status}
 use Rattle.reference.specs.LoadStore.{fetch_at}
 use Rattle.reference.specs.Operations.{result_of}
-use Rattle.reference.specs.ProgramCounter.{Finished, moves_on}
+use Rattle.reference.specs.ProgramCounter.{Finished, advances}
 use Rattle.reference.specs.State.{Bus, State, Stepped, stopped, ticked, with_bus, with_exceptions, with_registers}
 use Rattle.reference.specs.State.{with_system}
-use Rattle.reference.specs.Step.{ended, executed, fetched_first, fetched_second, finished, goes_on, instruction}
+use Rattle.reference.specs.Step.{ended, executed, fetched_first, fetched_second, finished, completed, instruction}
 use Rattle.reference.specs.Step.{performed_all, phase, planned, running, served, sleeps_on, step, unless_stopped}
 use Rattle.reference.specs.Step.{with_second, with_special_read, with_special_written, with_state_changed}
-use Rattle.reference.specs.Step.{without_meaning}
+use Rattle.reference.specs.Step.{undefined_instruction}
 
 -- ---- accesses
 
@@ -94,7 +94,7 @@ lines_after tick s events q = events ++ access_lines tick q (perform s.registers
 -- each keeps what holds inside a step, or gives what holds of its end
 pub record StepRules (P : Option Failure → State → List Event → Type 0) (Q : Stepped → Type 0) : Type 0 where
   -- the step ends: it's done, the machine stops, or an access failed, and an entry phase may begin
-  pub ends : (s : State) (events : List Event) → P None s events → Q (goes_on s events)
+  pub ends : (s : State) (events : List Event) → P None s events → Q (completed s events)
   pub stops : (s : State) (events : List Event) (why : Stop) → P None s events → Q (stopped s events why)
   pub fails : (why : Failure) (s : State) (events : List Event) (entry : Option ℕ) → P (Some why) s events
       → Q (failed (record s { entry = entry }) events why)
@@ -115,7 +115,7 @@ pub record StepRules (P : Option Failure → State → List Event → Type 0) (Q
   pub result : (s : State) (events : List Event) (i : CodedInstruction) (values : List ℕ) → P None s events
       → P None (with_registers s (result_of i s.registers values).registers) events
   pub moved : (s : State) (events : List Event) (length : InstructionLength) → P None s events
-      → P None (with_registers s (moves_on length s.registers).registers) events
+      → P None (with_registers s (advances length s.registers).registers) events
   pub special_read : (s : State) (events : List Event) (o : MoveFromSpecial) → P None s events
       → P None (with_special_read s o) events
   pub special_written : (s : State) (events : List Event) (special : SpecialRegister) (value : ℕ) → s.entry ≡ None
@@ -169,7 +169,7 @@ pushes_fit entry r = words_fit entry Push (is_privileged r) (frame_base (sp r)) 
 module _ {P : Option Failure → State → List Event → Type 0} {Q : Stepped → Type 0} (k : StepRules P Q) where
   -- ---- the ends of a step
 
-  done : (s : State) (events : List Event) → P None s events → Q (goes_on s events)
+  done : (s : State) (events : List Event) → P None s events → Q (completed s events)
   done = k.ends
 
   stop_ends : (s : State) (events : List Event) (why : Stop) → P None s events → Q (stopped s events why)
@@ -352,11 +352,11 @@ module _ {P : Option Failure → State → List Event → Type 0} {Q : Stepped �
   -- ---- the decoded instruction
 
   meaningless_keeps : (s : State) (events : List Event) (length : InstructionLength) (fault : UsageFault)
-      → s.entry ≡ None → P None s events → Q (without_meaning s events length fault)
+      → s.entry ≡ None → P None s events → Q (undefined_instruction s events length fault)
   meaningless_keeps s events length fault out p =
       cond_both (condition_passed s.registers.it_state s.registers.flags) _ _ Q
       (λ passed. faults s events fault s.entry p)
-      (λ skipped. finished_keeps s events (moves_on length s.registers) out (k.moved s events length p))
+      (λ skipped. finished_keeps s events (advances length s.registers) out (k.moved s events length p))
 
   executed_keeps : (s : State) (events : List Event) (length : InstructionLength) (d : Decoded) → s.entry ≡ None
       → P None s events → Q (executed s events length d)

@@ -26,7 +26,7 @@ NoneRefused events = All (λ event. is_refused event.what ≡ false) events
 
 -- a fault line is of a fault of the table: its bits are set in CFSR and HFSR, and what became pending is its exception,
 -- or HardFault in its place; in lockup nothing did
-pub record IsLineOf (effect : FaultEffect) (fault : RecordedFault) : Type 0 where
+pub record IsFaultLineOf (effect : FaultEffect) (fault : RecordedFault) : Type 0 where
   pub exception : (fault.exception ≡ effect.exception) ⊎ ((fault.exception ≡ HARD_FAULT) ⊎ (fault.exception ≡ 0))
   pub cfsr : bit_and fault.cfsr effect.cfsr ≡ effect.cfsr
   pub hfsr : bit_and fault.hfsr effect.hfsr ≡ effect.hfsr
@@ -44,7 +44,7 @@ pub record EndsRefused (events : List Event) : Type 0 where
   pub is_refused : refused.what ≡ Accessed (record { access = access; rule = rule; refused = Some cause })
   pub fault : RecordedFault
   pub is_fault : last.what ≡ FaultRecorded fault
-  pub is_of_access : IsLineOf (fault_of access cause) fault
+  pub is_of_access : IsFaultLineOf (fault_of access cause) fault
 
 -- at most one access is refused: it is the last access, and the next event, which is the last, is the line of its fault
 abbrev pub OneRefusal : List Event → Type 0

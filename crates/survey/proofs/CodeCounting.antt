@@ -14,23 +14,23 @@ use Rattle.reference.specs.Run.{after}
 use Rattle.reference.specs.State.{State}
 use Rattle.reference.specs.Step.{step}
 use Rattle.reference.specs.Step as steps
-use Rattle.survey.specs.declared.moment.Moment.{Moment}
+use Rattle.survey.specs.declared.step_start.StepStart.{StepStart}
 use Rattle.survey.specs.declared.survey.Survey.{Survey}
 use Rattle.survey.specs.CodeCounts.{CodeCounts, begins_instruction, code_place, halfword_of, has_halfword, with_fetch}
 use Rattle.survey.specs.CodeLaw.{CodeIsCounted, HalfwordsDiffer, instructions_in, instructions_of}
 use Rattle.survey.specs.CodeLaw.{is_counted_fetch}
 use Rattle.survey.specs.Counts.{counted_at, one_more, privilege_number}
-use Rattle.survey.specs.Surveys.{moment_of, surveyed, unless_stopped, with_accessed, with_event, with_events}
+use Rattle.survey.specs.Surveys.{step_start_of, surveyed, unless_stopped, with_accessed, with_event, with_events}
 use Rattle.survey.specs.Surveys.{with_other, with_parts, with_step, with_step_begun, with_step_end}
 use Rattle.survey.proofs.Counting.{cap, counted_one, length_counted, one_then, stays_small, two_runs}
 
 -- the counters of a survey that belong to a memory: only accesses change them
 record IsMemory (memory : Survey → CodeCounts) : Type 0 where
-  accessed : (m : Moment) (v : Survey) (d : DecidedAccess)
+  accessed : (m : StepStart) (v : Survey) (d : DecidedAccess)
       → memory (with_accessed m v d) ≡ with_fetch m.pc (memory v) d
-  other : (m : Moment) (v : Survey) (tick : ℕ) (byte : Option ℕ) (fault : Option RecordedFault)
+  other : (m : StepStart) (v : Survey) (tick : ℕ) (byte : Option ℕ) (fault : Option RecordedFault)
       → memory (with_other m v tick byte fault) ≡ memory v
-  begun : (m : Moment) (v : Survey) → memory (with_step_begun m v) ≡ memory v
+  begun : (m : StepStart) (v : Survey) → memory (with_step_begun m v) ≡ memory v
   ended : (v : Survey) → memory (with_step_end v) ≡ memory v
 
 flash_is : IsMemory (λ v. v.flash_code)
@@ -88,7 +88,7 @@ fetch_tallied c w place xs pc d is below =
     (has_halfword c d.access.address) below)
 
 -- an event, by its access or else its byte or its fault
-parts_tallied : (memory : Survey → CodeCounts) → IsMemory memory → (c : CodeCounts) (m : Moment) (v : Survey)
+parts_tallied : (memory : Survey → CodeCounts) → IsMemory memory → (c : CodeCounts) (m : StepStart) (v : Survey)
     (tick place : ℕ) (xs : List ℕ) (access : Option DecidedAccess) (byte : Option ℕ) (fault : Option RecordedFault)
     → memory v ≡ record c { counters = xs } → place < length xs
     → TalliedOne c place xs (memory (with_parts m v tick access byte fault))
@@ -99,7 +99,7 @@ parts_tallied memory of c m v tick place xs (Some d) byte fault is below =
     let one = fetch_tallied c (memory v) place xs m.pc d is below in
     record { counters = one.counters; is = of.accessed m v d ∙ one.is; number = one.number; long = one.long }
 
-event_tallied : (memory : Survey → CodeCounts) → IsMemory memory → (c : CodeCounts) (m : Moment) (v : Survey)
+event_tallied : (memory : Survey → CodeCounts) → IsMemory memory → (c : CodeCounts) (m : StepStart) (v : Survey)
     (tick place : ℕ) (xs : List ℕ) (what : EventKind) → memory v ≡ record c { counters = xs } → place < length xs
     → TalliedOne c place xs (memory (with_event m v tick what))
     (is_access_with (λ d. is_counted_fetch c place m.pc d) what)
@@ -107,7 +107,7 @@ unfolding with_event
 event_tallied memory of c m v tick place xs what is below =
     parts_tallied memory of c m v tick place xs (access_of what) (byte_of what) (recorded_fault_of what) is below
 
-events_tallied : (memory : Survey → CodeCounts) → IsMemory memory → (c : CodeCounts) (m : Moment) (v : Survey)
+events_tallied : (memory : Survey → CodeCounts) → IsMemory memory → (c : CodeCounts) (m : StepStart) (v : Survey)
     (place : ℕ) (xs : List ℕ) (es : List Event) → memory v ≡ record c { counters = xs } → place < length xs
     → get_or xs place 0 ≤ cap → Tallied c place xs (memory (with_events m v es)) (instructions_in c place m.pc es)
 events_tallied memory of c m v place xs [] is below small =
@@ -134,15 +134,16 @@ step_by : (memory : Survey → CodeCounts) → IsMemory memory → (c : CodeCoun
     (xs : List ℕ) (o : Option Stop) → s.stop ≡ o → memory v ≡ record c { counters = xs } → place < length xs
     → get_or xs place 0 ≤ cap
     → Tallied c place xs (memory (unless_stopped s v o)) (instructions_in c place s.registers.pc (step s).events)
-unfolding step moment_of
+unfolding step step_start_of
 step_by memory of c s v place xs None stop is below small =
-    let begun = of.begun (moment_of s) v ∙ is in
+    let begun = of.begun (step_start_of s) v ∙ is in
     let all =
-    events_tallied memory of c (moment_of s) (with_step_begun (moment_of s) v) place xs (step s).events begun below
+    events_tallied memory of c (step_start_of s) (with_step_begun (step_start_of s) v) place xs (step s).events begun
+    below
     small in
     record {
       counters = all.counters;
-      is = of.ended (with_events (moment_of s) (with_step_begun (moment_of s) v) (step s).events) ∙ all.is;
+      is = of.ended (with_events (step_start_of s) (with_step_begun (step_start_of s) v) (step s).events) ∙ all.is;
       number = all.number;
       long = all.long;
     }

@@ -9,12 +9,12 @@ use Rattle.platform.specs.declared.event.EventKind.TheVariants.{Accessed}
 use Rattle.platform.specs.Events.{line, lines}
 use Rattle.survey.specs.Counts.{place_of, place_of_access}
 use Rattle.survey.specs.CountLaw.{is_counted_at}
-use Rattle.survey.specs.LineLaw.{CountedHaveLines, EachHasOneLine, IsLineOf, access_line}
+use Rattle.survey.specs.LineLaw.{CountedHaveLines, EachHasOneLine, IsAccessLineOf, access_line}
 use Rattle.survey.proofs.Places.{places_apart}
 
 line_is : (tick : ℕ) (what : EventKind) (rule : Rule) (privileged : Bool) (kind : Kind) (refused : Option Cause)
     → is_counted_at (place_of rule privileged kind refused) what ≡ true
-    → IsLineOf rule privileged kind refused (line (record { tick = tick; what = what }))
+    → IsAccessLineOf rule privileged kind refused (line (record { tick = tick; what = what }))
 line_is tick (Accessed d) rule privileged kind refused e =
     let a = d.access.address in
     let z = d.access.size in

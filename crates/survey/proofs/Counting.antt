@@ -18,11 +18,12 @@ use Rattle.reference.specs.Run.{after, events_of}
 use Rattle.reference.specs.State.{State}
 use Rattle.reference.specs.Step.{step}
 use Rattle.reference.specs.Step as steps
-use Rattle.survey.specs.declared.moment.Moment.{Moment}
+use Rattle.survey.specs.declared.step_start.StepStart.{StepStart}
 use Rattle.survey.specs.declared.survey.Survey.{Survey}
 use Rattle.survey.specs.Counts.{counted_at, one_more, place_of, place_of_access}
 use Rattle.survey.specs.CountLaw.{CountsEvents, is_counted_at, events_at}
-use Rattle.survey.specs.Surveys.{moment_of, surveyed, unless_stopped, with_event, with_events, with_parts, with_step}
+use Rattle.survey.specs.Surveys.{step_start_of, surveyed, unless_stopped, with_event, with_events, with_parts}
+use Rattle.survey.specs.Surveys.{with_step}
 use Rattle.survey.specs.Surveys.{with_step_begun}
 
 -- the highest value of a counter
@@ -42,7 +43,7 @@ record Counted (place : ℕ) (v w : Survey) (is : Bool) : Type 0 where
   number : get_or w.counts place 0 ≡ cond is (one_more (get_or v.counts place 0)) (get_or v.counts place 0)
   long : length w.counts ≡ length v.counts
 
-parts_counted : (m : Moment) (v : Survey) (tick place : ℕ) (access : Option DecidedAccess) (byte : Option ℕ)
+parts_counted : (m : StepStart) (v : Survey) (tick place : ℕ) (access : Option DecidedAccess) (byte : Option ℕ)
     (fault : Option RecordedFault) → place < length v.counts
     → Counted place v (with_parts m v tick access byte fault)
     (option_map_or (λ d. place_of_access d == place) access false)
@@ -52,7 +53,7 @@ parts_counted m v tick place (Some d) byte fault below = record {
   long = length_counted v.counts (place_of_access d);
 }
 
-event_counted : (m : Moment) (v : Survey) (tick place : ℕ) (what : EventKind) → place < length v.counts
+event_counted : (m : StepStart) (v : Survey) (tick place : ℕ) (what : EventKind) → place < length v.counts
     → Counted place v (with_event m v tick what) (is_counted_at place what)
 unfolding with_event
 event_counted m v tick place what below =
@@ -73,7 +74,7 @@ pub record AllCounted (place : ℕ) (v w : Survey) (es : List Event) : Type 0 wh
   pub number : get_or w.counts place 0 ≡ min (get_or v.counts place 0 + events_at place es) cap
   pub long : length w.counts ≡ length v.counts
 
-events_counted : (m : Moment) (v : Survey) (place : ℕ) (es : List Event) → place < length v.counts
+events_counted : (m : StepStart) (v : Survey) (place : ℕ) (es : List Event) → place < length v.counts
     → get_or v.counts place 0 ≤ cap → AllCounted place v (with_events m v es) es
 events_counted m v place [] below small = record { number = omega arith; long = refl }
 events_counted m v place (e ∷ es) below small =
@@ -107,7 +108,8 @@ step_by : (s : State) (v : Survey) (place : ℕ) (o : Option Stop) → s.stop �
     → get_or v.counts place 0 ≤ cap → AllCounted place v (unless_stopped s v o) (step s).events
 unfolding step
 step_by s v place None e below small =
-    let all = events_counted (moment_of s) (with_step_begun (moment_of s) v) place (step s).events below small in
+    let all = events_counted (step_start_of s) (with_step_begun (step_start_of s) v) place (step s).events below
+    small in
     record { number = all.number; long = all.long }
 step_by s v place (Some why) e below small =
     let none : (step s).events ≡ [] = ap (λ (o : Option Stop). (steps.unless_stopped s o).events) e in

@@ -14,13 +14,14 @@ use Rattle.reference.specs.Run.{after}
 use Rattle.reference.specs.State.{State}
 use Rattle.reference.specs.Step.{step}
 use Rattle.survey.specs.declared.mark.Mark.{Mark}
-use Rattle.survey.specs.declared.moment.Moment.{Moment}
+use Rattle.survey.specs.declared.step_start.StepStart.{StepStart}
 use Rattle.survey.specs.declared.survey.Survey.{Survey}
-use Rattle.survey.specs.Surveys.{moment_of, surveyed, unless_stopped, with_event, with_events, with_parts, with_step}
+use Rattle.survey.specs.Surveys.{step_start_of, surveyed, unless_stopped, with_event, with_events, with_parts}
+use Rattle.survey.specs.Surveys.{with_step}
 use Rattle.survey.specs.Surveys.{with_step_begun}
 use Rattle.survey.specs.TimeLaw.{BeginsWith, LanesStay}
 use Rattle.survey.specs.Timeline.{Timeline, begun, lane_in, lanes_after, mark_of_access, marked, marked_by}
-use Rattle.survey.specs.Timeline.{most_lanes}
+use Rattle.survey.specs.Timeline.{max_lanes}
 use Rattle.survey.specs.Timeline.{running_mark, with_tick}
 use Rattle.survey.proofs.Times.{begun_lanes}
 
@@ -38,17 +39,17 @@ marked_by_lanes : (t : Timeline) (mark : Option Mark) → (marked_by t mark).han
 marked_by_lanes t None = refl
 marked_by_lanes t (Some mark) = marked_lanes t mark
 
-parts_lanes : (m : Moment) (v : Survey) (tick : ℕ) (access : Option DecidedAccess) (byte : Option ℕ)
+parts_lanes : (m : StepStart) (v : Survey) (tick : ℕ) (access : Option DecidedAccess) (byte : Option ℕ)
     (fault : Option RecordedFault) → (with_parts m v tick access byte fault).timeline.handlers ≡ v.timeline.handlers
 parts_lanes m v tick None byte fault = refl
 parts_lanes m v tick (Some d) byte fault = marked_by_lanes v.timeline (mark_of_access d)
 
-event_lanes : (m : Moment) (v : Survey) (tick : ℕ) (what : EventKind)
+event_lanes : (m : StepStart) (v : Survey) (tick : ℕ) (what : EventKind)
     → (with_event m v tick what).timeline.handlers ≡ v.timeline.handlers
 unfolding with_event
 event_lanes m v tick what = parts_lanes m v tick (access_of what) (byte_of what) (recorded_fault_of what)
 
-events_lanes : (m : Moment) (v : Survey) (es : List Event)
+events_lanes : (m : StepStart) (v : Survey) (es : List Event)
     → (with_events m v es).timeline.handlers ≡ v.timeline.handlers
 events_lanes m v [] = refl
 events_lanes m v (e ∷ es) = events_lanes m (with_event m v e.tick e.what) es ∙ event_lanes m v e.tick e.what
@@ -65,12 +66,12 @@ one_lane false true new handlers exception = same handlers
 one_lane false false true handlers exception = record { rest = exception ∷ []; is = refl }
 one_lane false false false handlers exception = same handlers
 
-lanes_begin : (handlers : List ℕ) (m : Moment) → BeginsWith handlers (lanes_after handlers m)
+lanes_begin : (handlers : List ℕ) (m : StepStart) → BeginsWith handlers (lanes_after handlers m)
 lanes_begin handlers m =
     let lane = lane_in m.exception handlers in
-    one_lane m.asleep (m.exception == 0) ((lane == length handlers) && nat_lt lane most_lanes) handlers m.exception
+    one_lane m.asleep (m.exception == 0) ((lane == length handlers) && nat_lt lane max_lanes) handlers m.exception
 
-tick_lanes : (t : Timeline) (m : Moment) → (with_tick t m).handlers ≡ lanes_after t.handlers m
+tick_lanes : (t : Timeline) (m : StepStart) → (with_tick t m).handlers ≡ lanes_after t.handlers m
 unfolding with_tick
 tick_lanes t m =
     let u = begun t in
@@ -82,7 +83,7 @@ tick_lanes t m =
 step_by : (s : State) (v : Survey) (o : Option Stop)
     → BeginsWith v.timeline.handlers (unless_stopped s v o).timeline.handlers
 step_by s v None =
-    let m = moment_of s in
+    let m = step_start_of s in
     let one = lanes_begin v.timeline.handlers m in
     record {
       rest = one.rest;

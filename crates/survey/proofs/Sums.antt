@@ -16,13 +16,14 @@ use Rattle.reference.specs.State.{State}
 use Rattle.reference.specs.Step.{step}
 use Rattle.reference.specs.Step as steps
 use Rattle.survey.proofs.Counting.{cond_then, length_counted}
-use Rattle.survey.specs.declared.moment.Moment.{Moment}
+use Rattle.survey.specs.declared.step_start.StepStart.{StepStart}
 use Rattle.survey.specs.declared.survey.Survey.{Survey}
 use Rattle.survey.specs.Counts.{counted_at, one_more, place_of_access}
 use Rattle.survey.specs.SumLaw.{OutcomesAddUp, SumCounts, any_access, chosen_in, counters, is_chosen, is_granted}
 use Rattle.survey.specs.SumLaw.{is_chosen_access, is_refused}
 use Rattle.survey.specs.SumLaw.{sum_from, sum_of}
-use Rattle.survey.specs.Surveys.{moment_of, surveyed, unless_stopped, with_event, with_events, with_parts, with_step}
+use Rattle.survey.specs.Surveys.{step_start_of, surveyed, unless_stopped, with_event, with_events, with_parts}
+use Rattle.survey.specs.Surveys.{with_step}
 use Rattle.survey.specs.Surveys.{with_step_begun}
 
 -- the highest value of a counter
@@ -76,7 +77,7 @@ one_added : (chosen : ℕ → Bool) (xs : List ℕ) (at : ℕ) → length xs ≡
     → sum_of chosen (counted_at xs at) ≡ sum_of chosen xs + cond (nat_lt at counters && chosen at) 1 0
 one_added chosen xs at long small = one_by chosen xs at (nat_lt at counters) refl long small
 
-parts_added : (chosen : ℕ → Bool) (m : Moment) (v : Survey) (tick : ℕ) (access : Option DecidedAccess)
+parts_added : (chosen : ℕ → Bool) (m : StepStart) (v : Survey) (tick : ℕ) (access : Option DecidedAccess)
     (byte : Option ℕ) (fault : Option RecordedFault) → length v.counts ≡ counters
     → sum_of chosen v.counts + cond (option_map_or (is_chosen_access chosen) access false) 1 0 ≤ cap
     → Added chosen v (with_parts m v tick access byte fault)
@@ -87,7 +88,8 @@ parts_added chosen m v tick (Some d) byte fault long small = record {
   long = length_counted v.counts (place_of_access d) ∙ long;
 }
 
-event_added : (chosen : ℕ → Bool) (m : Moment) (v : Survey) (tick : ℕ) (what : EventKind) → length v.counts ≡ counters
+event_added : (chosen : ℕ → Bool) (m : StepStart) (v : Survey) (tick : ℕ) (what : EventKind) → length v.counts
+    ≡ counters
     → sum_of chosen v.counts + cond (is_chosen chosen what) 1 0 ≤ cap
     → Added chosen v (with_event m v tick what) (cond (is_chosen chosen what) 1 0)
 unfolding with_event
@@ -108,7 +110,7 @@ one_and_rest : (b : Bool) (n after k total : ℕ) → after ≡ n + cond b 1 0 �
 one_and_rest true n after k total one rest = omega arith
 one_and_rest false n after k total one rest = omega arith
 
-events_added : (chosen : ℕ → Bool) (m : Moment) (v : Survey) (es : List Event) → length v.counts ≡ counters
+events_added : (chosen : ℕ → Bool) (m : StepStart) (v : Survey) (es : List Event) → length v.counts ≡ counters
     → sum_of chosen v.counts + chosen_in chosen es ≤ cap → Added chosen v (with_events m v es) (chosen_in chosen es)
 events_added chosen m v [] long small = record { sum = sym (add-zero _); long = long }
 events_added chosen m v (e ∷ es) long small =
@@ -137,7 +139,7 @@ step_by : (chosen : ℕ → Bool) (s : State) (v : Survey) (o : Option Stop) →
     → Added chosen v (unless_stopped s v o) (chosen_in chosen (step s).events)
 unfolding step
 step_by chosen s v None e long small =
-    let all = events_added chosen (moment_of s) (with_step_begun (moment_of s) v) (step s).events long small in
+    let all = events_added chosen (step_start_of s) (with_step_begun (step_start_of s) v) (step s).events long small in
     record { sum = all.sum; long = all.long }
 step_by chosen s v (Some why) e long small =
     let none : (step s).events ≡ [] = ap (λ (o : Option Stop). (steps.unless_stopped s o).events) e in

@@ -16,9 +16,10 @@ use Rattle.reference.specs.Run.{after}
 use Rattle.reference.specs.State.{State}
 use Rattle.reference.specs.Step.{step}
 use Rattle.survey.specs.declared.mark.Mark.{Mark}
-use Rattle.survey.specs.declared.moment.Moment.{Moment}
+use Rattle.survey.specs.declared.step_start.StepStart.{StepStart}
 use Rattle.survey.specs.declared.survey.Survey.{Survey}
-use Rattle.survey.specs.Surveys.{moment_of, surveyed, unless_stopped, with_event, with_events, with_parts, with_step}
+use Rattle.survey.specs.Surveys.{step_start_of, surveyed, unless_stopped, with_event, with_events, with_parts}
+use Rattle.survey.specs.Surveys.{with_step}
 use Rattle.survey.specs.Surveys.{with_step_begun}
 use Rattle.survey.specs.TimeLaw.{IsBlank, TimelineShows, event_makes, events_make, is_mark, makes, some_makes}
 use Rattle.survey.specs.TimeLaw.{step_makes, ticks_in}
@@ -57,7 +58,7 @@ mark_if : (f : ℕ → Bool) (k n last : ℕ) (more : Bool) (t : Timeline) (mark
 mark_if f k n last more t None before = rw (or-false more) before
 mark_if f k n last more t (Some mark) before = one_mark f k n last more t mark before
 
-parts_marked : (f : ℕ → Bool) (k n last : ℕ) (more : Bool) (m : Moment) (v : Survey) (tick : ℕ)
+parts_marked : (f : ℕ → Bool) (k n last : ℕ) (more : Bool) (m : StepStart) (v : Survey) (tick : ℕ)
     (access : Option DecidedAccess) (byte : Option ℕ) (fault : Option RecordedFault)
     → Marking f k n last more v.timeline
     → Marking f k n last (more || option_map_or (λ d. is_mark k (mark_of_access d)) access false)
@@ -66,14 +67,14 @@ parts_marked f k n last more m v tick None byte fault before = rw (or-false more
 parts_marked f k n last more m v tick (Some d) byte fault before =
     mark_if f k n last more v.timeline (mark_of_access d) before
 
-event_marked : (f : ℕ → Bool) (k n last : ℕ) (more : Bool) (m : Moment) (v : Survey) (tick : ℕ) (what : EventKind)
+event_marked : (f : ℕ → Bool) (k n last : ℕ) (more : Bool) (m : StepStart) (v : Survey) (tick : ℕ) (what : EventKind)
     → Marking f k n last more v.timeline
     → Marking f k n last (more || event_makes k what) (with_event m v tick what).timeline
 unfolding with_event
 event_marked f k n last more m v tick what before =
     parts_marked f k n last more m v tick (access_of what) (byte_of what) (recorded_fault_of what) before
 
-events_marked : (f : ℕ → Bool) (k n last : ℕ) (more : Bool) (m : Moment) (v : Survey) (es : List Event)
+events_marked : (f : ℕ → Bool) (k n last : ℕ) (more : Bool) (m : StepStart) (v : Survey) (es : List Event)
     → Marking f k n last more v.timeline
     → Marking f k n last (more || events_make k es) (with_events m v es).timeline
 events_marked f k n last more m v [] before = rw (or-false more) before
@@ -115,7 +116,7 @@ ran_so : (f : ℕ → Bool) (k n : ℕ) (more other : Bool) (t : Timeline) → m
     → Ran f k n other t
 ran_so f k n more other t e ran = rw (← e) ran
 
-tick_ran : (f : ℕ → Bool) (k n : ℕ) (t : Timeline) (m : Moment) → Stands f k n t → n < 2 ^ 64
+tick_ran : (f : ℕ → Bool) (k n : ℕ) (t : Timeline) (m : StepStart) → Stands f k n t → n < 2 ^ 64
     → Ran f k n (mark_number (running_mark t.handlers m) == k) (with_tick t m)
 unfolding with_tick
 tick_ran f k n t m stands small =
@@ -139,7 +140,7 @@ step_stands : (f : ℕ → Bool) (k n : ℕ) (s : State) (v : Survey) → Stands
     → f n ≡ step_makes k v.timeline.handlers s → s.stop ≡ None → Stands f k (n + 1) (with_step s v).timeline
 unfolding with_step
 step_stands f k n s v stands small is runs =
-    let m = moment_of s in
+    let m = step_start_of s in
     let one = tick_ran f k n v.timeline m stands small in
     let all = events_marked f k (n + 1) one.last (mark_number (running_mark v.timeline.handlers m) == k) m
     (with_step_begun m v) (step s).events one.marking in

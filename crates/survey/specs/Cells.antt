@@ -20,8 +20,8 @@ pub record Cells : Type 0 where
   pub marks : List Bool
 
 -- how many cells there are at most
-abbrev pub most_cells : ℕ
-most_cells = 1024
+abbrev pub max_cells : ℕ
+max_cells = 1024
 
 -- the width of the cells of a memory: the least for which there are enough cells
 abbrev pub width_of : ℕ → ℕ
@@ -57,7 +57,7 @@ touch_number Refused = 3
 
 -- the place of the mark of a cell that code of a privilege touched so
 abbrev pub mark_of : Bool → Touch → ℕ → ℕ
-mark_of privileged touch cell = (privilege_number privileged * 4 + touch_number touch) * most_cells + cell
+mark_of privileged touch cell = (privilege_number privileged * 4 + touch_number touch) * max_cells + cell
 
 -- whether the memory has a byte at an address
 abbrev pub has_byte : Cells → ℕ → Bool

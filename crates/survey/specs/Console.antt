@@ -10,13 +10,13 @@ pub record Console : Type 0 where
   pub number : ℕ
 
 -- how many bytes are kept at most
-abbrev pub most_bytes : ℕ
-most_bytes = 65536
+abbrev pub max_bytes : ℕ
+max_bytes = 65536
 
 -- a byte is kept, where there is a place for it
 abbrev pub kept : Console → ℕ → Console
 kept c byte =
-    if nat_lt c.used most_bytes then record c { bytes = slice_set c.bytes c.used byte; used = c.used + 1 } else c
+    if nat_lt c.used max_bytes then record c { bytes = slice_set c.bytes c.used byte; used = c.used + 1 } else c
 
 -- after a byte that was printed
 abbrev pub with_byte : Console → ℕ → Console

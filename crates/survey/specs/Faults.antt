@@ -18,8 +18,8 @@ pub record Faults : Type 0 where
   pub refused : Option DecidedAccess
 
 -- how many rows there are at most
-abbrev pub most_rows : ℕ
-most_rows = 64
+abbrev pub max_rows : ℕ
+max_rows = 64
 
 -- the same status registers, and the same exception that became pending
 abbrev pub is_same_record : RecordedFault → RecordedFault → Bool
@@ -68,7 +68,7 @@ repeated f last =
 -- a new row, where there is a place for it
 abbrev pub appended : Faults → Fault → Faults
 appended f fault =
-    if nat_lt f.used most_rows then record f { rows = slice_set f.rows f.used fault; used = f.used + 1 } else f
+    if nat_lt f.used max_rows then record f { rows = slice_set f.rows f.used fault; used = f.used + 1 } else f
 
 -- with one more fault, counted
 abbrev pub with_row : Faults → Fault → Faults

@@ -28,7 +28,7 @@ access_line tick address size rule privileged kind refused =
     )
 
 -- a text is the line of an access of a rule, privilege, kind and outcome
-pub record IsLineOf (rule : Rule) (privileged : Bool) (kind : Kind) (refused : Option Cause) (text : List ℕ)
+pub record IsAccessLineOf (rule : Rule) (privileged : Bool) (kind : Kind) (refused : Option Cause) (text : List ℕ)
     : Type 0 where
   pub tick : ℕ
   pub address : ℕ
@@ -40,7 +40,7 @@ abbrev pub CountedHaveLines : Type 0
 CountedHaveLines =
     (rule : Rule) (privileged : Bool) (kind : Kind) (refused : Option Cause) (e : Event)
     → is_counted_at (place_of rule privileged kind refused) e.what ≡ true
-    → IsLineOf rule privileged kind refused (line e)
+    → IsAccessLineOf rule privileged kind refused (line e)
 
 -- each event has one line, in the order of the events
 abbrev pub EachHasOneLine : Type 0

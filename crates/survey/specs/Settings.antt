@@ -18,8 +18,8 @@ pub record Settings : Type 0 where
   pub others : ℕ
 
 -- how many rows there are at most
-abbrev pub most_settings : ℕ
-most_settings = 64
+abbrev pub max_settings : ℕ
+max_settings = 64
 
 -- a row is that of a region's setting: its number, RBAR and RASR
 abbrev pub is_of : RegionSetting → Setting → Bool
@@ -52,7 +52,7 @@ counted_in s region place way =
 -- a new row, which counts one access, where there is a place for it; otherwise the access is one of the others
 abbrev pub added : Settings → RegionSetting → ℕ → Settings
 added s region way =
-    if nat_lt s.used most_settings
+    if nat_lt s.used max_settings
     then record s { rows = slice_set s.rows s.used (counted_row (blank_row region) way); used = s.used + 1 }
     else record s { others = one_more s.others }
 

@@ -10,7 +10,7 @@ use Rattle.reference.specs.State.{State}
 use Rattle.reference.specs.Step.{step}
 use Rattle.survey.specs.declared.mark.Mark.{Mark}
 use Rattle.survey.specs.declared.survey.Survey.{Survey}
-use Rattle.survey.specs.Surveys.{moment_of, surveyed}
+use Rattle.survey.specs.Surveys.{step_start_of, surveyed}
 use Rattle.survey.specs.Timeline.{Timeline, has_mark, mark_number, mark_of_access, running_mark}
 
 -- a mark, if there is one, is that of a number
@@ -30,7 +30,7 @@ events_make number (e ∷ es) = event_makes number e.what || events_make number 
 -- a step from a state makes it: it is what the core runs then, by the lanes that there are, or an event makes it
 abbrev pub step_makes : ℕ → List ℕ → State → Bool
 step_makes number handlers s =
-    (mark_number (running_mark handlers (moment_of s)) == number) || events_make number (step s).events
+    (mark_number (running_mark handlers (step_start_of s)) == number) || events_make number (step s).events
 
 -- step i of a run that is surveyed makes it, counted from 0
 abbrev pub makes : State → Survey → ℕ → ℕ → Bool

@@ -9,7 +9,7 @@ use Rattle.platform.specs.Kinds.{is_write}
 use Rattle.survey.specs.declared.mark.Mark.{Mark}
 use Rattle.survey.specs.declared.mark.Mark.TheVariants.{Unprivileged, Privileged, Sleep, Refused, MpuWritten}
 use Rattle.survey.specs.declared.mark.Mark.TheVariants.{OtherHandler, Handler}
-use Rattle.survey.specs.declared.moment.Moment.{Moment}
+use Rattle.survey.specs.declared.step_start.StepStart.{StepStart}
 
 -- The ticks so far. Of the 1,024 places of `columns` the first `used` have begun. The bits of a column are its marks.
 pub record Timeline : Type 0 where
@@ -23,12 +23,12 @@ pub record Timeline : Type 0 where
   pub handlers : List ℕ
 
 -- how many columns there are at most
-abbrev pub most_columns : ℕ
-most_columns = 1024
+abbrev pub max_columns : ℕ
+max_columns = 1024
 
 -- how many exceptions have lanes of their own at most
-abbrev pub most_lanes : ℕ
-most_lanes = 24
+abbrev pub max_lanes : ℕ
+max_lanes = 24
 
 -- no tick has begun, and no exception has a lane
 abbrev pub HasNoTicks : Timeline → Type 0
@@ -87,7 +87,7 @@ appended t = record t { columns = slice_set t.columns t.used 0; used = t.used + 
 
 -- a column begins, after neighbours were joined where all columns had begun
 abbrev pub with_column : Timeline → Timeline
-with_column t = if t.used == most_columns then appended (joined t) else appended t
+with_column t = if t.used == max_columns then appended (joined t) else appended t
 
 -- a tick begins, in the last column if that doesn't have all its ticks
 abbrev pub begun : Timeline → Timeline
@@ -103,21 +103,21 @@ lane_in exception (handler ∷ handlers) = if handler == exception then 0 else l
 -- the lanes after the handler of an exception ran, whose lane is known: a new one where there is room for it
 abbrev pub with_lane : List ℕ → ℕ → ℕ → List ℕ
 with_lane handlers exception lane =
-    if (lane == length handlers) && nat_lt lane most_lanes then handlers ++ exception ∷ [] else handlers
+    if (lane == length handlers) && nat_lt lane max_lanes then handlers ++ exception ∷ [] else handlers
 
 -- the mark of a handler, by the lane of its exception
 abbrev pub handler_mark : ℕ → Mark
-handler_mark lane = if nat_lt lane most_lanes then Handler lane else OtherHandler
+handler_mark lane = if nat_lt lane max_lanes then Handler lane else OtherHandler
 
 -- what the core runs when a step begins, by the lanes that there are
-abbrev pub running_mark : List ℕ → Moment → Mark
+abbrev pub running_mark : List ℕ → StepStart → Mark
 running_mark handlers m =
     if m.asleep then Sleep
     else if m.exception == 0 then (if m.privileged then Privileged else Unprivileged)
     else handler_mark (lane_in m.exception handlers)
 
 -- the lanes after a step began
-abbrev pub lanes_after : List ℕ → Moment → List ℕ
+abbrev pub lanes_after : List ℕ → StepStart → List ℕ
 lanes_after handlers m =
     if m.asleep then handlers
     else if m.exception == 0 then handlers
@@ -132,11 +132,11 @@ abbrev pub handled : Timeline → ℕ → Timeline
 handled t exception = marked (with_handler t exception) (handler_mark (lane_in exception t.handlers))
 
 -- the last tick is that of a step that begins at a moment
-abbrev pub ran : Timeline → Moment → Timeline
+abbrev pub ran : Timeline → StepStart → Timeline
 ran t m = marked (record t { handlers = lanes_after t.handlers m }) (running_mark t.handlers m)
 
 -- the tick of a step that begins at a moment: it belongs to what the core runs then
-unfoldable pub with_tick : Timeline → Moment → Timeline
+unfoldable pub with_tick : Timeline → StepStart → Timeline
 with_tick t m = ran (begun t) m
 
 -- What a step did

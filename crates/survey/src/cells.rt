@@ -10,7 +10,7 @@ use std::alloc::{AllocError, Global};
 use std::marker::Model;
 
 /// How many cells a memory has at most.
-pub const MOST_CELLS: usize = 1024;
+pub const MAX_CELLS: usize = 1024;
 
 /// How many marks there are: 2 privileges and 4 ways to touch each cell.
 pub const MARKS: usize = 8192;
@@ -129,7 +129,7 @@ impl Cells {
 
     /// Returns whether code of a privilege touched a byte of a cell in a way.
     pub fn is_marked(&self, privileged: bool, touch: Touch, cell: usize) -> bool
-        requires { cell < MOST_CELLS }
+        requires { cell < MAX_CELLS }
         ensures { result ≡ is_marked self.now privileged touch cell }
     {
         self.marks[mark_of(privileged, touch, cell)]
@@ -153,11 +153,11 @@ impl Cells {
 /// Returns the place of the mark of a cell that code of a privilege touched so.
 #[inline(always)]
 fn mark_of(privileged: bool, touch: Touch, cell: usize) -> usize
-    requires { cell < MOST_CELLS }
+    requires { cell < MAX_CELLS }
     ensures value { result ≡ mark_of privileged touch cell }
     ensures within { result < MARKS }
 {
-    (privilege_number(privileged) * 4 + touch.number()) * MOST_CELLS + cell
+    (privilege_number(privileged) * 4 + touch.number()) * MAX_CELLS + cell
 }
 
 /// Returns the width of the cells of a memory: the least for which there are enough cells.

@@ -7,7 +7,7 @@ use std::alloc::{AllocError, Global};
 use std::marker::Model;
 
 /// How many bytes are kept at most.
-pub const MOST_BYTES: usize = 65536;
+pub const MAX_BYTES: usize = 65536;
 
 /// The first bytes that the firmware printed, and how many it printed.
 #[derive(Drop)]
@@ -33,9 +33,9 @@ impl Console {
     pub fn new(alloc: Global) -> Result<Self, AllocError>
         ensures used { IfOk result (λ console. console.used ≡ 0) }
         ensures number { IfOk result (λ console. console.number ≡ 0) }
-        ensures room { IfOk result (λ console. length console.bytes ≡ MOST_BYTES) }
+        ensures room { IfOk result (λ console. length console.bytes ≡ MAX_BYTES) }
     {
-        let bytes = vec![in alloc; 0; MOST_BYTES]?;
+        let bytes = vec![in alloc; 0; MAX_BYTES]?;
         Ok(Console {
             bytes,
             used: 0,
@@ -73,7 +73,7 @@ impl Console {
     {
         self.number = self.number.saturating_add(1);
         let used = self.used;
-        if used < MOST_BYTES {
+        if used < MAX_BYTES {
             self.bytes[used] = byte;
             self.used = used + 1;
         }

@@ -12,7 +12,7 @@ use std::alloc::{AllocError, Global};
 use std::marker::Model;
 
 /// How many rows there are at most.
-pub const MOST_ROWS: usize = 64;
+pub const MAX_ROWS: usize = 64;
 
 /// The first faults, each with how often it came, and the number of all.
 #[derive(Drop)]
@@ -42,7 +42,7 @@ impl Faults {
         ensures number { IfOk result (λ faults. faults.number ≡ 0) }
         ensures refused { IfOk result (λ faults. faults.refused ≡ None) }
     {
-        let rows = vec![in alloc; Fault::default(); MOST_ROWS]?;
+        let rows = vec![in alloc; Fault::default(); MAX_ROWS]?;
         Ok(Faults {
             rows,
             used: 0,
@@ -120,7 +120,7 @@ impl Faults {
         if used > 0 && is_same(&self.rows[used - 1], fault) {
             let times = self.rows[used - 1].times;
             self.rows[used - 1].times = times.saturating_add(1);
-        } else if used < MOST_ROWS {
+        } else if used < MAX_ROWS {
             self.rows[used] = *fault;
             self.used = used + 1;
         }

@@ -6,7 +6,7 @@ ghost use Rattle.survey.specs.Timeline.{handler_mark, mark_number, mark_of_acces
 use platform::access::DecidedAccess;
 
 /// How many exceptions have lanes of their own at most.
-pub const MOST_LANES: usize = 24;
+pub const MAX_LANES: usize = 24;
 
 /// The address of the first register of the MPU, MPU_TYPE (ARM DDI 0403, "MPU register support").
 const FIRST_MPU_REGISTER: u32 = 0xE000_ED90;
@@ -56,7 +56,7 @@ impl Mark {
         ensures value { result ≡ handler_mark lane }
         ensures within { mark_number result < 30 }
     {
-        if lane < MOST_LANES {
+        if lane < MAX_LANES {
             Mark::Handler(lane as u8)
         } else {
             Mark::OtherHandler

@@ -12,7 +12,7 @@ use std::alloc::{AllocError, Global};
 use std::marker::Model;
 
 /// How many settings have rows at most.
-pub const MOST_SETTINGS: usize = 64;
+pub const MAX_SETTINGS: usize = 64;
 
 /// The settings under which regions decided accesses, and how many each decided.
 #[derive(Drop)]
@@ -44,7 +44,7 @@ impl Settings {
             base: 0,
             attributes: 0,
         });
-        let rows = vec![in alloc; blank; MOST_SETTINGS]?;
+        let rows = vec![in alloc; blank; MAX_SETTINGS]?;
         Ok(Settings {
             rows,
             used: 0,
@@ -118,7 +118,7 @@ impl Settings {
         ensures { self.new ≡ added self.old region.now way }
     {
         let used = self.used;
-        if used < MOST_SETTINGS {
+        if used < MAX_SETTINGS {
             let mut row = Setting::blank(region);
             row.count(way);
             self.rows[used] = row;

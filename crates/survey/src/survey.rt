@@ -13,8 +13,8 @@ use crate::code_counts::CodeCounts;
 use crate::console::Console;
 use crate::counts::{COUNTERS, Counts};
 use crate::faults::Faults;
-use crate::moment::Moment;
 use crate::settings::Settings;
+use crate::step_start::StepStart;
 use crate::timeline::Timeline;
 use crate::touch::Touch;
 use platform::access::DecidedAccess;
@@ -92,57 +92,57 @@ impl Survey {
 
     /// Begins a step at a moment, and counts it.
     #[inline(always)]
-    pub fn begin_step(&mut self, moment: &Moment)
-        ensures { self.new ≡ with_step_begun moment.now self.old }
+    pub fn begin_step(&mut self, start: &StepStart)
+        ensures { self.new ≡ with_step_begun start.now self.old }
     {
-        self.timeline.take_tick(moment);
+        self.timeline.take_tick(start);
         self.steps = self.steps.saturating_add(1);
     }
 
     /// Counts the events of a step that began at a moment.
-    pub fn take_events(&mut self, moment: &Moment, events: &[Event])
-        ensures { self.new ≡ with_events moment.now self.old events.now }
+    pub fn take_events(&mut self, start: &StepStart, events: &[Event])
+        ensures { self.new ≡ with_events start.now self.old events.now }
     {
         for event in events {
-            self.take(moment, event.tick, &event.what);
+            self.take(start, event.tick, &event.what);
         }
     }
 
     /// Counts an event of a step that began at a moment.
     #[inline(always)]
     #[tactic(auto, unfolding(crate::specs::Surveys::with_event))]
-    pub fn take(&mut self, moment: &Moment, tick: u64, what: &EventKind)
-        ensures { self.new ≡ with_event moment.now self.old tick what.now }
+    pub fn take(&mut self, start: &StepStart, tick: u64, what: &EventKind)
+        ensures { self.new ≡ with_event start.now self.old tick what.now }
     {
         match what.access() {
-            Some(decided) => self.take_access(moment, decided),
-            None => self.take_other(moment, tick, what),
+            Some(decided) => self.take_access(start, decided),
+            None => self.take_other(start, tick, what),
         }
     }
 
     /// Counts an event that is no access: a byte that was printed, a fault that was recorded, or neither.
     #[inline(always)]
-    fn take_other(&mut self, moment: &Moment, tick: u64, what: &EventKind)
-        ensures { self.new ≡ with_other moment.now self.old tick (byte_of what.now) (recorded_fault_of what.now) }
+    fn take_other(&mut self, start: &StepStart, tick: u64, what: &EventKind)
+        ensures { self.new ≡ with_other start.now self.old tick (byte_of what.now) (recorded_fault_of what.now) }
     {
         self.console.take_any_byte(what.byte());
         self.faults
-            .take_any_fault(moment.pc, tick, what.recorded_fault());
+            .take_any_fault(start.pc, tick, what.recorded_fault());
     }
 
     /// Counts an access of a step that began at a moment.
     #[inline(always)]
-    fn take_access(&mut self, moment: &Moment, decided: &DecidedAccess)
-        ensures { self.new ≡ with_accessed moment.now self.old decided.now }
+    fn take_access(&mut self, start: &StepStart, decided: &DecidedAccess)
+        ensures { self.new ≡ with_accessed start.now self.old decided.now }
     {
         self.counts.count(decided);
-        self.settings.take_access(&moment.mpu, decided);
+        self.settings.take_access(&start.mpu, decided);
         self.faults.take_access(decided);
         let touch = Touch::of(decided.access.kind, decided.refused);
         self.flash.take_touch(decided, touch);
         self.ram.take_touch(decided, touch);
-        self.flash_code.take_access(moment.pc, decided);
-        self.ram_code.take_access(moment.pc, decided);
+        self.flash_code.take_access(start.pc, decided);
+        self.ram_code.take_access(start.pc, decided);
         self.timeline.take_access(decided);
     }
 

@@ -5,15 +5,15 @@ ghost use Rattle.instruction_set.specs.Words.{is_bit};
 ghost use Rattle.survey.specs.Timeline.{begun, has_mark, joined, handled, joined_to, lane_in, mark_number, marked, ran};
 ghost use Rattle.survey.specs.Timeline.{with_accessed_mark, with_column, with_handler, with_tick};
 
-use crate::mark::{MOST_LANES, Mark};
-use crate::moment::Moment;
+use crate::mark::{MAX_LANES, Mark};
+use crate::step_start::StepStart;
 use bounded::Bounded;
 use platform::access::DecidedAccess;
 use std::alloc::{AllocError, Global};
 use std::marker::Model;
 
 /// How many columns there are at most.
-pub const MOST_COLUMNS: usize = 1024;
+pub const MAX_COLUMNS: usize = 1024;
 
 /// What ran when. A column stands for 1, 2, 4, .. ticks: where all columns have begun and a tick more comes,
 /// neighbours are joined.
@@ -28,7 +28,7 @@ pub struct Timeline {
     /// How many ticks the last column that has begun stands for so far.
     filled: u64,
     /// The exceptions that have lanes, in the order in which their handlers first ran.
-    handlers: Bounded<u16, MOST_LANES>,
+    handlers: Bounded<u16, MAX_LANES>,
 }
 
 impl Model for Timeline {
@@ -55,9 +55,9 @@ impl Timeline {
         ensures ticks { IfOk result (λ timeline. timeline.column_ticks ≡ 1) }
         ensures filled { IfOk result (λ timeline. timeline.filled ≡ 1) }
         ensures handlers { IfOk result (λ timeline. timeline.handlers ≡ []) }
-        ensures columns { IfOk result (λ timeline. timeline.columns ≡ replicate MOST_COLUMNS 0) }
+        ensures columns { IfOk result (λ timeline. timeline.columns ≡ replicate MAX_COLUMNS 0) }
     {
-        let columns = vec![in alloc; 0; MOST_COLUMNS]?;
+        let columns = vec![in alloc; 0; MAX_COLUMNS]?;
         Ok(Timeline {
             columns,
             used: 0,
@@ -99,11 +99,11 @@ impl Timeline {
     /// Takes the tick of a step that begins at a moment.
     #[inline(always)]
     #[tactic(auto, unfolding(crate::specs::Timeline::with_tick))]
-    pub fn take_tick(&mut self, moment: &Moment)
-        ensures { self.new ≡ with_tick self.old moment.now }
+    pub fn take_tick(&mut self, start: &StepStart)
+        ensures { self.new ≡ with_tick self.old start.now }
     {
         self.begin_tick();
-        self.take_running(moment);
+        self.take_running(start);
     }
 
     /// Takes an access of the step whose tick came last.
@@ -133,7 +133,7 @@ impl Timeline {
     fn begin_column(&mut self)
         ensures { self.new ≡ with_column self.old }
     {
-        if self.used == MOST_COLUMNS {
+        if self.used == MAX_COLUMNS {
             self.join();
         }
         let used = self.used;
@@ -147,25 +147,25 @@ impl Timeline {
         ensures { self.new ≡ joined self.old }
     {
         join_columns(&mut self.columns);
-        self.used = MOST_COLUMNS / 2;
+        self.used = MAX_COLUMNS / 2;
         self.column_ticks = self.column_ticks.saturating_mul(2);
     }
 
     /// Marks the last tick with what the core runs when its step begins.
     #[inline(always)]
-    fn take_running(&mut self, moment: &Moment)
-        ensures { self.new ≡ ran self.old moment.now }
+    fn take_running(&mut self, start: &StepStart)
+        ensures { self.new ≡ ran self.old start.now }
     {
-        if moment.asleep {
+        if start.asleep {
             self.mark(Mark::Sleep);
-        } else if moment.exception == 0 {
-            if moment.privileged {
+        } else if start.exception == 0 {
+            if start.privileged {
                 self.mark(Mark::Privileged);
             } else {
                 self.mark(Mark::Unprivileged);
             }
         } else {
-            self.mark_handler(moment.exception);
+            self.mark_handler(start.exception);
         }
     }
 
@@ -184,7 +184,7 @@ impl Timeline {
         ensures lanes { self.new ≡ with_handler self.old exception }
     {
         let lane = lane_in(exception, self.handlers.as_slice());
-        if lane == self.handlers.len() && lane < MOST_LANES {
+        if lane == self.handlers.len() && lane < MAX_LANES {
             self.handlers.push(exception);
         }
         lane

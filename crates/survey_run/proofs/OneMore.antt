@@ -7,20 +7,20 @@ use Rattle.reference.specs.State.{State}
 use Rattle.reference.specs.Step.{step}
 use Rattle.survey.proofs.Regions.{regions_stay}
 use Rattle.survey.specs.RegionLaw.{some_writes_system, writes_system}
-use Rattle.survey.specs.declared.moment.Moment.{Moment}
+use Rattle.survey.specs.declared.step_start.StepStart.{StepStart}
 use Rattle.survey.specs.declared.survey.Survey.{Survey}
-use Rattle.survey.specs.Surveys.{moment_of, with_event, with_events}
+use Rattle.survey.specs.Surveys.{step_start_of, with_event, with_events}
 use Rattle.survey_run.specs.Begun.{events_of}
 
-with_one_more : (m : Moment) (v : Survey) (es : List Event) (e : Event)
+with_one_more : (m : StepStart) (v : Survey) (es : List Event) (e : Event)
     → with_events m v (es ++ e ∷ []) ≡ with_event m (with_events m v es) e.tick e.what
 with_one_more m v [] e = refl
 with_one_more m v (first ∷ es) e = with_one_more m (with_event m v first.tick first.what) es e
 
-pub one_counted : (m moment : Moment) (v now new : Survey) (es later : List Event) (e : Event) → moment ≡ m
-    → now ≡ with_events m v es → new ≡ with_event moment now e.tick e.what → later ≡ es ++ e ∷ []
+pub one_counted : (m start : StepStart) (v now new : Survey) (es later : List Event) (e : Event) → start ≡ m
+    → now ≡ with_events m v es → new ≡ with_event start now e.tick e.what → later ≡ es ++ e ∷ []
     → new ≡ with_events m v later
-one_counted m moment v now new es later e same so_far one more =
+one_counted m start v now new es later e same so_far one more =
     rw (more, with_one_more m v es e, ← so_far, ← same) one
 
 -- the events of one pair more
@@ -44,8 +44,8 @@ pub more_written : (before now : Bool) (es later : List Event) (e : Event) → b
 more_written before now es later e so_far is more = rw (more, one_written es e, ← so_far) is
 
 -- after a step without such a write the registers of the MPU are those of its moment
-pub still_known : (s : State) (m : Moment) (wrote : Bool) → m ≡ moment_of s
+pub still_known : (s : State) (m : StepStart) (wrote : Bool) → m ≡ step_start_of s
     → wrote ≡ some_writes_system (step s).events → wrote ≡ false → (step s).state.bus.system.mpu ≡ m.mpu
-unfolding moment_of
+unfolding step_start_of
 still_known s m wrote is wrote_is none =
-    regions_stay s (sym wrote_is ∙ none) ∙ sym (ap (λ (n : Moment). n.mpu) is)
+    regions_stay s (sym wrote_is ∙ none) ∙ sym (ap (λ (n : StepStart). n.mpu) is)

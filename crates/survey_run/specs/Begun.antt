@@ -3,13 +3,13 @@ use Rattle.std.specs.Prelude.{ℕ, List, map, [], None, false}
 use Rattle.platform.specs.declared.event.Event.{Event}
 use Rattle.platform.specs.Regions.{fresh}
 use Rattle.trace.specs.Emission.{Emission}
-use Rattle.survey.specs.declared.moment.Moment.{Moment}
+use Rattle.survey.specs.declared.step_start.StepStart.{StepStart}
 use Rattle.survey.specs.declared.survey.Survey.{Survey}
 use Rattle.survey.specs.Cells.{Cells}
 use Rattle.survey.specs.CodeCounts.{CodeCounts}
 
-abbrev pub no_moment : Moment
-no_moment = record { pc = 0; exception = 0; privileged = false; asleep = false; mpu = fresh 8 }
+abbrev pub no_step_start : StepStart
+no_step_start = record { pc = 0; exception = 0; privileged = false; asleep = false; mpu = fresh 8 }
 
 abbrev pub no_cells : Cells
 no_cells = record { base = 0; size = 0; width = 0; marks = [] }

@@ -3,28 +3,28 @@
 ghost use Rattle.std.specs.Prelude.{◌≡◌, [], ◌||◌};
 ghost use Rattle.reference.specs.Step.{step};
 ghost use Rattle.survey.specs.RegionLaw.{some_writes_system, writes_system};
-ghost use Rattle.survey.specs.declared.moment.Moment.{Moment};
+ghost use Rattle.survey.specs.declared.step_start.StepStart.{StepStart};
 ghost use Rattle.survey.specs.declared.survey.Survey.{Survey};
 ghost use Rattle.survey.specs.Surveys.{with_events};
-ghost use Rattle.survey_run.specs.Begun.{emission, events_of, no_moment, no_survey};
+ghost use Rattle.survey_run.specs.Begun.{emission, events_of, no_step_start, no_survey};
 
-use machine::{Decider, DueTicks, KeptCode, Levels, Machine};
+use machine::{Decider, Exceptions, KeptCode, Machine, SysTickState};
 use output::History;
 use platform::event::{Event, EventKind};
 use std::marker::{Brand, PhantomData};
-use survey::{Moment, Survey, writes_system};
+use survey::{StepStart, Survey, writes_system};
 use trace::sink::Sink;
 
 /// What a step begins with: a moment, and a survey. Contracts alone see it.
 pub trait Begun {
-    ghost moment: { Moment };
+    ghost start: { StepStart };
 
     ghost survey: { Survey };
 }
 
 // What stands for them where a call picks none.
 impl Begun for Brand {
-    ghost moment = { no_moment };
+    ghost start = { no_step_start };
 
     ghost survey = { no_survey };
 }
@@ -33,29 +33,29 @@ impl Begun for Brand {
 #[derive(Drop)]
 pub struct CountedEvents<'a, K: Begun> {
     survey: &'a mut Survey,
-    moment: &'a Moment,
+    start: &'a StepStart,
     // Whether one of the events so far is a write to the Private Peripheral Bus that was carried out.
     wrote_system: bool,
     begun: PhantomData<K>,
     // The events so far.
     history: History<(), Event>,
-    ghost moment_is: { moment.now ≡ K.moment },
-    ghost survey_is: { survey.now ≡ with_events K.moment K.survey (events_of history.items) },
+    ghost start_is: { start.now ≡ K.start },
+    ghost survey_is: { survey.now ≡ with_events K.start K.survey (events_of history.items) },
     ghost wrote_is: { wrote_system ≡ some_writes_system (events_of history.items) },
 }
 
 impl<'a, K: Begun> CountedEvents<'a, K> {
     /// Makes a sink before the first event of a step.
     #[inline(always)]
-    pub fn new(survey: &'a mut Survey, moment: &'a Moment) -> Self
-        requires moment { moment.now ≡ K.moment }
+    pub fn new(survey: &'a mut Survey, start: &'a StepStart) -> Self
+        requires start { start.now ≡ K.start }
         requires survey { survey.old ≡ K.survey }
         ensures same_survey { result.survey.ghost_name ≡ survey.entry.ghost_name }
         ensures none { result.history.items ≡ [] }
     {
         CountedEvents {
             survey,
-            moment,
+            start,
             wrote_system: false,
             begun: PhantomData,
             history: History::new(),
@@ -65,13 +65,13 @@ impl<'a, K: Begun> CountedEvents<'a, K> {
     /// Makes a step of a machine, and counts its events. Returns whether one of them is a write to the Private
     /// Peripheral Bus that was carried out.
     #[inline(always)]
-    pub fn take_step<D: Decider, C: KeptCode, L: Levels, U: DueTicks>(
+    pub fn take_step<D: Decider, C: KeptCode, L: Exceptions, U: SysTickState>(
         &mut self,
         machine: &mut Machine<D, C, L, U>,
     ) -> bool
         requires { self.old.history.items ≡ [] }
         ensures same_survey { self.new.survey.ghost_name ≡ self.old.survey.ghost_name }
-        ensures survey { self.new.survey.now ≡ with_events K.moment K.survey (step machine.old.state).events }
+        ensures survey { self.new.survey.now ≡ with_events K.start K.survey (step machine.old.state).events }
         ensures state { machine.new ≡ record machine.old { state = (step machine.old.state).state } }
         ensures wrote { result ≡ some_writes_system (step machine.old.state).events }
     {
@@ -86,7 +86,7 @@ impl<'a, K: Begun> Sink for CountedEvents<'a, K> {
     #[inline(always)]
     fn emit(&mut self, event: Event) {
         let history = self.history.and(&(), &event);
-        self.survey.take(self.moment, event.tick, &event.what);
+        self.survey.take(self.start, event.tick, &event.what);
         self.wrote_system = or_writes(self.wrote_system, &event.what);
         self.history = history;
     }

@@ -9,7 +9,7 @@ use Rattle.std.proofs.lemmas.List.Elements.{All-head, All-tail, All-weaker}
 use Rattle.std.proofs.lemmas.List.Folds.{list_any_at, list_any_kept}
 use Rattle.symbols.specs.declared.symbol.Symbol.{Symbol}
 use Rattle.symbol_steps.specs.declared.ranking.SymbolSteps.{SymbolSteps}
-use Rattle.symbol_steps.specs.Rows.{AreApart, has_row_of, with_row}
+use Rattle.symbol_steps.specs.Rows.{AreDistinct, has_row_of, with_row}
 use Rattle.symbol_steps.specs.Symbols.{is_twin}
 use Rattle.symbol_steps.specs.Totals.{totals_sum}
 use Rattle.symbol_steps.proofs.Ranked.{all_inserted, twin_own}
@@ -61,8 +61,8 @@ apart_from_new s new (row ∷ rows) apart none =
           (apart_from_new s new rows apart parts.1))
     ]
 
-apart_with_row : (new : SymbolSteps) (rows : List SymbolSteps) → has_row_of new.symbol rows ≡ false → AreApart rows
-    → AreApart (with_row new rows)
+apart_with_row : (new : SymbolSteps) (rows : List SymbolSteps) → has_row_of new.symbol rows ≡ false → AreDistinct rows
+    → AreDistinct (with_row new rows)
 apart_with_row new [] none apart = (refl, tt)
 apart_with_row new (row ∷ rows) none apart =
     let parts = or_parts (is_twin new.symbol row.symbol) (has_row_of new.symbol rows) none in
@@ -84,7 +84,7 @@ none_of_first s (suc n) (row ∷ rows) none =
     let parts = or_parts (is_twin s row.symbol) (has_row_of s rows) none in
     or_from (is_twin s row.symbol) (has_row_of s (take n rows)) parts.0 (none_of_first s n rows parts.1)
 
-apart_of_first : (n : ℕ) (rows : List SymbolSteps) → AreApart rows → AreApart (take n rows)
+apart_of_first : (n : ℕ) (rows : List SymbolSteps) → AreDistinct rows → AreDistinct (take n rows)
 apart_of_first zero rows apart = tt
 apart_of_first (suc n) [] apart = tt
 apart_of_first (suc n) (row ∷ rows) apart =
@@ -96,9 +96,9 @@ AreAmong list rows = All (λ (row : SymbolSteps). list_any (is_twin row.symbol) 
 
 pub apart_inserted : (list : List Symbol) (new : SymbolSteps) (rows after : List SymbolSteps)
     → after ≡ take 20 (with_row new rows) → list_any (is_twin new.symbol) list ≡ false → AreAmong list rows
-    → AreApart rows → AreApart after
+    → AreDistinct rows → AreDistinct after
 apart_inserted list new rows after is none among apart =
-    subst AreApart (sym is) (apart_of_first 20 (with_row new rows)
+    subst AreDistinct (sym is) (apart_of_first 20 (with_row new rows)
     (apart_with_row new rows (apart_from_rows new.symbol list rows none among) apart))
 
 pub among_more : (list : List Symbol) (n : ℕ) (rows : List SymbolSteps) → AreAmong (take n list) rows

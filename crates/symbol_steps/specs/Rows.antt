@@ -30,9 +30,9 @@ abbrev pub has_row_of : Symbol → List SymbolSteps → Bool
 has_row_of s rows = list_any (λ row. is_twin s row.symbol) rows
 
 -- no two rows have a symbol of the same address and name
-abbrev pub AreApart : List SymbolSteps → Type 0
-AreApart [] = Unit {0}
-AreApart (row ∷ rows) = (has_row_of row.symbol rows ≡ false) × AreApart rows
+abbrev pub AreDistinct : List SymbolSteps → Type 0
+AreDistinct [] = Unit {0}
+AreDistinct (row ∷ rows) = (has_row_of row.symbol rows ≡ false) × AreDistinct rows
 
 -- rows with one more, each row that has fewer instructions a place further
 abbrev pub with_row : SymbolSteps → List SymbolSteps → List SymbolSteps

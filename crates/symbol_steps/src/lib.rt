@@ -5,7 +5,7 @@ mod cover;
 mod ranking;
 mod totals;
 
-pub use ranking::{MOST_ROWS, Ranking, SymbolSteps};
+pub use ranking::{MAX_ROWS, Ranking, SymbolSteps};
 pub use totals::{Share, Totals};
 
 #[cfg(test)]

@@ -3,7 +3,7 @@
 ghost use Rattle.std.specs.List.{list_any};
 ghost use Rattle.std.specs.Prelude.{◌≡◌, ◌≤◌, ◌<◌, ◌^◌, ◌++◌, ◌∷◌, [], length, take, All, IfSome, false};
 ghost use Rattle.std.specs.Prelude.{slice_index_or};
-ghost use Rattle.symbol_steps.specs.Rows.{AreApart, AreDescending, IsRowOf, rows_totals, with_row};
+ghost use Rattle.symbol_steps.specs.Rows.{AreDistinct, AreDescending, IsRowOf, rows_totals, with_row};
 ghost use Rattle.symbol_steps.specs.Symbols.{is_twin};
 
 use crate::cover::{HalfwordRange, end_of, has_twin, is_alone, named_totals};
@@ -13,11 +13,11 @@ use survey::Survey;
 use symbols::{Symbol, Symbols};
 
 /// How many symbols have rows at most.
-pub const MOST_ROWS: usize = 20;
+pub const MAX_ROWS: usize = 20;
 
 /// How much work the ranking of an image may be: halfwords and symbols that are read. The symbols of an image whose
 /// parts overlap, as no linker writes it, may be more work: then those that don't fit have no row.
-const MOST_WORK: u64 = 1 << 30;
+const MAX_WORK: u64 = 1 << 30;
 
 /// A symbol, and the instructions that were carried out in it.
 #[derive(Clone, Copy)]
@@ -41,7 +41,7 @@ impl SymbolSteps {
 /// The symbols with the most instructions, from the most on.
 #[derive(Drop)]
 pub struct Ranking {
-    rows: [SymbolSteps; MOST_ROWS],
+    rows: [SymbolSteps; MAX_ROWS],
     used: usize,
 }
 
@@ -61,9 +61,9 @@ impl Ranking {
     /// neither has one that would be too much work.
     pub fn of(survey: &Survey, symbols: &Symbols<'_>) -> Self
         ensures rows { All (IsRowOf survey.now symbols.now.list.items) result }
-        ensures apart { AreApart result }
+        ensures apart { AreDistinct result }
         ensures order { AreDescending result }
-        ensures few { length result ≤ MOST_ROWS }
+        ensures few { length result ≤ MAX_ROWS }
     {
         let mut ranking = Ranking::empty();
         let mut work = 0;
@@ -80,7 +80,7 @@ impl Ranking {
         ensures { result ≡ [] }
     {
         Ranking {
-            rows: [SymbolSteps::NONE; MOST_ROWS],
+            rows: [SymbolSteps::NONE; MAX_ROWS],
             used: 0,
         }
     }
@@ -101,17 +101,16 @@ impl Ranking {
 
     /// Inserts a row before those with fewer instructions. The last row goes where there are too many.
     fn insert(&mut self, row: SymbolSteps)
-        ensures { self.new ≡ take MOST_ROWS (with_row row self.old) }
+        ensures { self.new ≡ take MAX_ROWS (with_row row self.old) }
     {
         let last = sink(&mut self.rows, self.used, row);
-        if self.used < MOST_ROWS {
+        if self.used < MAX_ROWS {
             self.rows[self.used] = last;
             self.used += 1;
         }
     }
 }
 
-/// Returns the instructions of rows.
 fn totals_of(rows: &[SymbolSteps]) -> Totals
     ensures { result ≡ rows_totals rows.now }
 {
@@ -192,7 +191,7 @@ fn counted_in(survey: &Survey, address: u32, end: u64, work: &mut u64) -> Option
 /// Adds a cost to the work so far, if that isn't too much then. Returns whether it isn't.
 fn spend(work: &mut u64, cost: usize) -> bool {
     let sum = work.saturating_add(cost as u64);
-    if sum > MOST_WORK {
+    if sum > MAX_WORK {
         return false;
     }
     *work = sum;

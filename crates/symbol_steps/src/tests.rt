@@ -1,6 +1,6 @@
 //! The rows of rankings, and shares. Expected numbers are worked out by hand.
 
-use crate::{MOST_ROWS, Ranking, Share, Totals};
+use crate::{MAX_ROWS, Ranking, Share, Totals};
 use instruction_set::size::Size;
 use platform::access::{Access, DecidedAccess, Kind, Rule};
 use platform::board::SMALL_BOARD;
@@ -196,7 +196,7 @@ fn a_ranking_has_twenty_rows(rt: HostRuntime) -> Result<(), Fail> {
     };
     let ranking = Ranking::of(&survey, &symbols);
     let all = Totals::of_all(&survey);
-    assert_eq!(rt; ranking.rows().len(), MOST_ROWS);
+    assert_eq!(rt; ranking.rows().len(), MAX_ROWS);
     assert_eq!(rt; ranking.rows()[0].totals.privileged, 21);
     assert_eq!(rt; ranking.rows()[19].totals.privileged, 2);
     assert_eq!(rt; ranking.shown().sum(), 230);

@@ -61,7 +61,6 @@ impl Totals {
         Totals::at(code, address_of(code, halfword))
     }
 
-    /// Returns these and some more.
     pub fn and(self, more: Totals) -> Self
         ensures { result ≡ joined self more }
     {
@@ -81,7 +80,6 @@ impl Totals {
         }
     }
 
-    /// Returns those of both privileges.
     pub fn sum(self) -> u64
         ensures { result ≡ totals_sum self }
     {

@@ -6,9 +6,9 @@ use Rattle.symbols.specs.Lookup.{symbol_of}
 use Rattle.symbols.specs.Tables.{name_in}
 
 -- a name and an offset are those of an address that a symbol covers, where there is one
-abbrev pub Names : List ℕ → ℕ → Option Symbol → List ℕ → ℕ → Type 0
-Names strings a None name offset = ⊥
-Names strings a (Some symbol) name offset =
+abbrev pub NamesAddress : List ℕ → ℕ → Option Symbol → List ℕ → ℕ → Type 0
+NamesAddress strings a None name offset = ⊥
+NamesAddress strings a (Some symbol) name offset =
     (name ≡ name_in strings symbol.name) × (offset ≡ a - symbol.address)
 
 -- an address has no name: no symbol covers it, or the name of the one that does is no UTF-8
@@ -18,7 +18,7 @@ IsNameless strings (Some symbol) = ¬ (IsUtf8 (name_in strings symbol.name))
 
 -- a name and an offset are those of an address, by a string table and a list of symbols
 abbrev pub NamesAt : List ℕ → List Symbol → ℕ → List ℕ → ℕ → Type 0
-NamesAt strings symbols a name offset = Names strings a (symbol_of symbols a) name offset
+NamesAt strings symbols a name offset = NamesAddress strings a (symbol_of symbols a) name offset
 
 -- an address has no name, by a string table and a list of symbols
 abbrev pub IsNamelessAt : List ℕ → List Symbol → ℕ → Type 0

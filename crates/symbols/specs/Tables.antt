@@ -155,8 +155,8 @@ symbols_of table strings (suc n) = or_symbol table strings (symbol_size * n) (sy
 -- How the symbol table is found.
 
 -- how many symbols are read at most (profile)
-abbrev pub most_symbols : ℕ
-most_symbols = 65536
+abbrev pub max_symbols : ℕ
+max_symbols = 65536
 
 -- the place of the section header of a number
 abbrev pub header_at : List ℕ → ℕ → ℕ
@@ -174,7 +174,7 @@ places_at file symbols strings = record {
 -- the symbol table of the header at a place, with the header of its string table at another
 abbrev pub found_at : List ℕ → ℕ → ℕ → Search
 found_at file symbols strings =
-    if (is_whole file symbols && is_whole file strings) && nat_le (sh_size file symbols / symbol_size) most_symbols
+    if (is_whole file symbols && is_whole file strings) && nat_le (sh_size file symbols / symbol_size) max_symbols
     then Found (places_at file symbols strings) else Damaged
 
 -- the symbol table of the header at a place, whose string table has the number sh_link

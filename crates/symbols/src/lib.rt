@@ -9,5 +9,5 @@ mod symbol;
 mod table;
 
 pub use names::Symbols;
-pub use places::{MOST_SYMBOLS, Places, Search};
+pub use places::{MAX_SYMBOLS, Places, Search};
 pub use symbol::Symbol;

@@ -8,7 +8,7 @@ ghost use Rattle.symbols.specs.Found.{AreInside};
 use crate::number::{halfword, word};
 
 /// How many symbols are read at most.
-pub const MOST_SYMBOLS: u32 = 65536;
+pub const MAX_SYMBOLS: u32 = 65536;
 
 const ELF_HEADER_SIZE: usize = 52;
 
@@ -149,7 +149,7 @@ fn found_at(file: &[u8], symbols: usize, strings: usize) -> Search
     ensures inside { AreInside file.now result }
 {
     let count = word(file, symbols + 20) / 16;
-    if is_whole(file, symbols) && is_whole(file, strings) && count <= MOST_SYMBOLS {
+    if is_whole(file, symbols) && is_whole(file, strings) && count <= MAX_SYMBOLS {
         let start = word(file, strings + 16) as usize;
         Search::Found(Places {
             table: word(file, symbols + 16) as usize,

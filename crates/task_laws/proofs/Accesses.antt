@@ -26,7 +26,7 @@ use Rattle.platform.specs.Map.{is_in_ppb, is_in_window}
 use Rattle.platform.specs.Memory.{Agree, Memory, is_writable_at, bytes_of}
 use Rattle.platform.specs.Outcomes.{Outcome, within}
 use Rattle.platform.specs.Regions.{Mpu, IsSound}
-use Rattle.platform.specs.Space.{number_read, written_to, space_access}
+use Rattle.platform.specs.Space.{number_read, written_to, memory_access}
 use Rattle.reference.specs.State.{Bus}
 use Rattle.task_laws.specs.Sight.{may, sees}
 use Rattle.task_laws.specs.TaskLaw.{IsOfTask, AreOfTask}
@@ -150,8 +150,8 @@ module _ (m : Mpu) (z : Bool) (old : Memory) where
 
   space_alike : (b : Bus) (k : Memory) (ticks : ℕ) (rule : Rule) (q : Request) → Alike b k → IsOpen m z q →
       is_probe q.access.kind ≡ false →
-      SameSpace b (space_access b.memory ticks rule q) (space_access k ticks rule q)
-  unfolding space_access
+      SameSpace b (memory_access b.memory ticks rule q) (memory_access k ticks rule q)
+  unfolding memory_access
   space_alike b k ticks rule q alike opened unprobed =
       both (SameSpace b) (is_write q.access.kind) _ _ _ _ (λ e. write_alike b k rule q alike (opened.writes e))
       (λ e. record {

@@ -12,7 +12,7 @@ use Rattle.task_laws.specs.declared.task.TaskEnd.TheVariants as task_end
 use Rattle.task_laws.specs.Foresight.{is_instruction, is_instruction_next, kind_unless_stopped}
 use Rattle.task_laws.specs.Sight.{Same}
 use Rattle.task_laws.specs.TaskLaw.{EndsAfter, EndsInOneWay, TwoRunsLaw}
-use Rattle.task_laws.specs.Tasks.{AreInstructions, Ends, is_task}
+use Rattle.task_laws.specs.Tasks.{AreInstructions, EndsTask, is_task}
 use Rattle.task_laws.proofs.Laws.{end_there, end_law, run_law}
 
 -- a stopped machine makes no Instruction step
@@ -25,7 +25,7 @@ stopped_makes_none s why e = ap (λ (o : Option Stop). is_instruction (kind_unle
 ends_here : (n a b : ℕ) (s : State) (x : TaskEnd) → EndsAfter n s a x → a < b → b ≤ n → AreInstructions b s → ⊥
 ends_here n a b s x one fewer few made = none x one.ends
   where
-    none : (x : TaskEnd) → Ends n a (after a s) x → ⊥
+    none : (x : TaskEnd) → EndsTask n a (after a s) x → ⊥
     none task_end.Done e = let same : a ≡ n = e.0 in omega arith
     none task_end.Other e = let other = e.2 in let more = made a fewer in absurd cc
     none task_end.NotTask e = e
@@ -33,7 +33,7 @@ ends_here n a b s x one fewer few made = none x one.ends
         let other = stopped_makes_none (after a s) why e in let more = made a fewer in absurd cc
 
 -- after equally many steps it ended for one reason
-one_reason : (n a : ℕ) (last : State) (x y : TaskEnd) → Ends n a last x → Ends n a last y → x ≡ y
+one_reason : (n a : ℕ) (last : State) (x y : TaskEnd) → EndsTask n a last x → EndsTask n a last y → x ≡ y
 one_reason n a last task_end.Done task_end.Done e f = refl
 one_reason n a last task_end.Done task_end.Other e f =
     let all : a ≡ n = e.0 in let few : a < n = f.0 in absurd (omega arith)
@@ -60,8 +60,8 @@ as_many n s a b x y one two =
 pub one_way_law : (n : ℕ) (s : State) (a b : ℕ) (x y : TaskEnd) → EndsInOneWay n s a b x y
 one_way_law n s a b x y one two =
     let steps = as_many n s a b x y one two in
-    let ends : Ends n a (after a s) y =
-    subst (λ (k : ℕ). Ends n k (after k s) y) (sym steps) two.ends in
+    let ends : EndsTask n a (after a s) y =
+    subst (λ (k : ℕ). EndsTask n k (after k s) y) (sym steps) two.ends in
     (steps, one_reason n a (after a s) x y one.ends ends)
 
 -- ---- two states that look the same
@@ -89,7 +89,8 @@ made_none : (s : State) (a : ℕ) (why : Stop) → s.stop ≡ Some why → AreIn
 unfolding after
 made_none s zero why e made = refl
 made_none s (suc a) why e made =
-    let other = stopped_makes_none s why e in let more : is_instruction_next s ≡ true = made 0 (omega arith) in absurd cc
+    let other = stopped_makes_none s why e in let more : is_instruction_next s
+    ≡ true = made 0 (omega arith) in absurd cc
 
 none_made : (n : ℕ) (s t : State) (x : TaskEnd) → Same s t → EndsAfter n s 0 x → Carried n s t 0 x
 unfolding after events_of
@@ -98,7 +99,7 @@ none_made n s t x same one = record {
     few = one.few;
     instructions = λ k below. absurd (let w : ⊥ = omega arith in w);
     ends =
-        subst (λ (u : State). Ends n 0 u x) (sym same.rest) (end_there n 0 s t.bus.memory x one.ends);
+        subst (λ (u : State). EndsTask n 0 u x) (sym same.rest) (end_there n 0 s t.bus.memory x one.ends);
   };
   events = refl;
   same = same;

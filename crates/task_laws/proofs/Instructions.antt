@@ -1,12 +1,12 @@
 -- An Instruction step, by the parts of a state on which the kind of the next step depends.
 use Rattle.std.proofs.Common.{◌≡◌, ℕ, nat_le, Bool, true, false, if◌then◌else◌, [], Option, Some, None, refl, sym, ap}
 use Rattle.std.proofs.Common.{◌∙◌}
-use Rattle.platform.specs.declared.stop.LeftOut.TheVariants.{ClockEnd}
+use Rattle.platform.specs.declared.stop.Unsupported.TheVariants.{ClockEnd}
 use Rattle.platform.specs.declared.stop.Stop.{Stop}
 use Rattle.platform.specs.declared.stop.Stop.TheVariants as stop
 use Rattle.platform.specs.Priorities.{candidate}
 use Rattle.reference.specs.State.{State, stopped, ticked}
-use Rattle.reference.specs.Step.{goes_on, instruction, phase, sleeps_on, step, unless_stopped}
+use Rattle.reference.specs.Step.{completed, instruction, phase, sleeps_on, step, unless_stopped}
 use Rattle.platform.specs.Time.{last_tick}
 use Rattle.task_laws.specs.declared.foresight.StepKind.{StepKind}
 use Rattle.task_laws.specs.declared.foresight.StepKind.TheVariants as kind
@@ -87,7 +87,7 @@ awoken s = record (ticked s) { asleep = false }
 
 phase_is : (s : State) → sleeps_on s ≡ false → phase s None None ≡ instruction (record s { asleep = false })
 unfolding phase
-phase_is s e = ap (λ (b : Bool). if b then goes_on s [] else instruction (record s { asleep = false })) e
+phase_is s e = ap (λ (b : Bool). if b then completed s [] else instruction (record s { asleep = false })) e
 
 -- an Instruction step is `instruction` after the tick
 pub step_is : (s : State) → IsInstruction s → step s ≡ instruction (awoken s)

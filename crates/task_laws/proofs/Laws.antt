@@ -19,7 +19,7 @@ use Rattle.task_laws.specs.Foresight.{is_instruction_next}
 use Rattle.task_laws.specs.Sight.{sees, is_seen, AgreeBut, Same, KeepsDenied, with_memory}
 use Rattle.task_laws.specs.TaskLaw.{IsOfTask, performed_in, AccessAlike, AccessLaw, StepLaw, RunAlike, RunLaw}
 use Rattle.task_laws.specs.TaskLaw.{UnprivilegedRunLaw, EndsAlike}
-use Rattle.task_laws.specs.Tasks.{AreInstructions, Ends, runs_unprivileged}
+use Rattle.task_laws.specs.Tasks.{AreInstructions, EndsTask, runs_unprivileged}
 use Rattle.task_laws.proofs.Accesses.{Alike, perform_alike}
 use Rattle.task_laws.proofs.Instructions.{instruction_is, instruction_says}
 use Rattle.space.proofs.Blocks.{agree_self, laid_out_alike}
@@ -197,8 +197,8 @@ step_law s t inv task same next =
 
 -- ---- how a run of a task ends
 
-pub end_there : (n steps : ℕ) (s : State) (k : Memory) (end : TaskEnd) → Ends n steps s end →
-    Ends n steps (with_memory s k) end
+pub end_there : (n steps : ℕ) (s : State) (k : Memory) (end : TaskEnd) → EndsTask n steps s end →
+    EndsTask n steps (with_memory s k) end
 end_there n steps s k task_end.Done e = e
 end_there n steps s k task_end.Other e = e
 end_there n steps s k task_end.NotTask e = e
@@ -208,7 +208,7 @@ pub end_law : (n : ℕ) (s t : State) (steps : ℕ) (end : TaskEnd) → EndsAlik
 end_law n s t steps end inv task same are ends =
     let all = run_law s t steps inv task same are in (
       all.instructions,
-      subst (λ (u : State). Ends n steps u end) (sym all.same.rest)
+      subst (λ (u : State). EndsTask n steps u end) (sym all.same.rest)
           (end_there n steps (after steps s) (after steps t).bus.memory end ends),
       all.events,
     )

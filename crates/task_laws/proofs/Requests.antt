@@ -37,7 +37,7 @@ use Rattle.reference.specs.LoadStore.{fetch_at, load_store_requests}
 use Rattle.reference.specs.LoadStoreMultiple.{word_requests, several, load_store_multiple_requests}
 use Rattle.platform.specs.Map.{has_side_effects}
 use Rattle.platform.specs.Memory.{bytes_of}
-use Rattle.reference.specs.Operations.{is_misplaced, is_carried_out, requests_of, wants}
+use Rattle.reference.specs.Operations.{is_misplaced, is_carried_out, requests_of, plan}
 use Rattle.reference.specs.SystemInstructions.{system_requests}
 use Rattle.task_laws.specs.TaskLaw.{IsTaskKind, IsOfTask, AreOfTask, AskOfTask, RequestsLaw}
 
@@ -187,9 +187,9 @@ module _ (r : Registers) (t : is_privileged r ≡ false) where
   requests_asked traps (family.System i) = system_asked i
 
   -- what an instruction of a task wants is as unprivileged code makes it
-  pub wants_asked : (traps : Traps) (i : CodedInstruction) → AskOfTask (wants traps i r)
-  unfolding wants
-  wants_asked traps i =
+  pub plan_asked : (traps : Traps) (i : CodedInstruction) → AskOfTask (plan traps i r)
+  unfolding plan
+  plan_asked traps i =
       cond_both (is_misplaced i.place r.it_state) _ _ AskOfTask (λ e. tt)
       (λ e. cond_both (is_carried_out i.instruction r) _ _ AskOfTask (λ f. requests_asked traps i.instruction)
       (λ f. tt))
@@ -199,4 +199,4 @@ module _ (r : Registers) (t : is_privileged r ≡ false) where
   fetch_of address even = record { unprivileged = t; kind = inl refl; aligned = even }
 
 pub requests_law : (r : Registers) → RequestsLaw r
-requests_law r t = (λ traps i. wants_asked r t traps i, λ address even. fetch_of r t address even)
+requests_law r t = (λ traps i. plan_asked r t traps i, λ address even. fetch_of r t address even)

@@ -37,15 +37,15 @@ use Rattle.reference.specs.LoadStore.{fetch_at}
 use Rattle.reference.specs.Operations.{result_of}
 use Rattle.platform.specs.Outcomes.{Outcome}
 use Rattle.platform.specs.Priorities.{Nvic, is_below_zero}
-use Rattle.reference.specs.ProgramCounter.{Finished, moves_on}
+use Rattle.reference.specs.ProgramCounter.{Finished, advances}
 use Rattle.platform.specs.Regions.{Mpu, IsSound}
 use Rattle.platform.specs.SpecialRegisters.{write_special}
 use Rattle.reference.specs.State.{Bus, State, Stepped, ticked, with_bus, with_system, with_registers, with_exceptions}
 use Rattle.platform.specs.Status.{Status}
-use Rattle.reference.specs.Step.{ended, finished, served, performed_all, planned, without_meaning, executed}
+use Rattle.reference.specs.Step.{ended, finished, served, performed_all, planned, undefined_instruction, executed}
 use Rattle.reference.specs.Step.{fetched_second, with_second, fetched_first, instruction, step, traps}
 use Rattle.platform.specs.System.{System}
-use Rattle.state_laws.proofs.Effects.{IsEndIn, Leaves, register_kept, moves_on_kept, result_kept}
+use Rattle.state_laws.proofs.Effects.{IsEndIn, Leaves, register_kept, advances_kept, result_kept}
 use Rattle.task_laws.specs.Sight.{with_memory}
 use Rattle.task_laws.specs.TaskLaw.{IsOfTask, AreOfTask, AskOfTask}
 use Rattle.task_laws.proofs.Accesses.{Alike, SameOutcome, SameList, outcome_with, list_with, with_memory_of}
@@ -53,7 +53,7 @@ use Rattle.task_laws.proofs.Accesses.{perform_alike, all_alike}
 use Rattle.task_laws.proofs.Instructions.{IsInstruction, awoken, step_is}
 use Rattle.space.proofs.Blocks.{both}
 use Rattle.task_laws.proofs.Priorities.{Decides, pending_alike, tick_decides}
-use Rattle.task_laws.proofs.Requests.{wants_asked, fetch_of}
+use Rattle.task_laws.proofs.Requests.{plan_asked, fetch_of}
 use Rattle.task_laws.proofs.Unprivileged.{IsUnprivileged, writes_kept, not_handler, unprivileged_is, special_kept}
 use Rattle.task_laws.proofs.Unprivileged.{mask_kept, state_kept}
 
@@ -161,8 +161,8 @@ module _ (m : Mpu) (z : Bool) (old : Memory) where
   called_alike events Itself s k r = record {
     rest = refl;
     ready =
-        pended_ready (with_registers s (moves_on Short s.registers).registers) k SV_CALL
-        (with_new_registers s k _ (moves_on_kept writes_kept Short s.registers r.thread).kept r);
+        pended_ready (with_registers s (advances Short s.registers).registers) k SV_CALL
+        (with_new_registers s k _ (advances_kept writes_kept Short s.registers r.thread).kept r);
   }
   called_alike events HardFault s k r = escalated_alike events SV_CALL HardFault s k r
   called_alike events Lockup s k r = escalated_alike events SV_CALL Lockup s k r
@@ -234,17 +234,17 @@ module _ (m : Mpu) (z : Bool) (old : Memory) where
   -- ---- the decoded instruction
 
   meaningless_alike : (events : List Event) (length : InstructionLength) (fault : UsageFault) →
-      EndsSame (λ s. without_meaning s events length fault)
+      EndsSame (λ s. undefined_instruction s events length fault)
   meaningless_alike events length fault s k r =
       both SameStep (condition_passed s.registers.it_state s.registers.flags) _ _ _ _
       (λ passed. failed_alike events (failure.Usage fault) s k r)
-      (λ skipped. finished_alike events (moves_on length s.registers)
-      (moves_on_kept writes_kept length s.registers r.thread) s k r)
+      (λ skipped. finished_alike events (advances length s.registers)
+      (advances_kept writes_kept length s.registers r.thread) s k r)
 
   executed_alike : (events : List Event) (length : InstructionLength) (d : Decoded) →
       EndsSame (λ s. executed s events length d)
   executed_alike events length (decoded.Instr i) s k r =
-      planned_alike events i _ (wants_asked s.registers (unprivileged_is s.registers r.thread) (traps s) i) s k r
+      planned_alike events i _ (plan_asked s.registers (unprivileged_is s.registers r.thread) (traps s) i) s k r
   executed_alike events length decoded.Undefined s k r = meaningless_alike events length UndefinedInstruction s k r
   executed_alike events length decoded.NoCoprocessor s k r = meaningless_alike events length NoCoprocessor s k r
   executed_alike events length (decoded.Unpredictable place why) s k r = record { rest = refl; ready = r }

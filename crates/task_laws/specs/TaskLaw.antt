@@ -11,14 +11,14 @@ use Rattle.reference.specs.declared.failure.Traps.{Traps}
 use Rattle.reference.specs.Accesses.{perform}
 use Rattle.reference.specs.Invariant.{Invariant}
 use Rattle.reference.specs.LoadStore.{fetch_at}
-use Rattle.reference.specs.Operations.{wants}
+use Rattle.reference.specs.Operations.{plan}
 use Rattle.reference.specs.Run.{after, events_of}
 use Rattle.reference.specs.State.{State, with_bus}
 use Rattle.reference.specs.Step.{step}
 use Rattle.task_laws.specs.declared.task.TaskEnd.{TaskEnd}
 use Rattle.task_laws.specs.Foresight.{is_instruction_next}
 use Rattle.task_laws.specs.Sight.{KeepsDenied, Same}
-use Rattle.task_laws.specs.Tasks.{AreInstructions, Ends, is_task, runs_unprivileged}
+use Rattle.task_laws.specs.Tasks.{AreInstructions, EndsTask, is_task, runs_unprivileged}
 
 -- ---- one access
 
@@ -45,7 +45,7 @@ AskOfTask (Err why) = Unit {0}
 abbrev pub RequestsLaw : Registers → Type 0
 RequestsLaw r =
     is_privileged r ≡ false →
-    ((traps : Traps) (i : CodedInstruction) → AskOfTask (wants traps i r))
+    ((traps : Traps) (i : CodedInstruction) → AskOfTask (plan traps i r))
     × ((address : ℕ) → address % 2 ≡ 0 → IsOfTask (fetch_at address (is_privileged r)))
 
 -- the state after an access
@@ -100,8 +100,8 @@ UnprivilegedRunLaw s t n = Invariant s → runs_unprivileged s ≡ true → Same
 -- a run of a task from t ends as one from s does, after as many steps
 abbrev pub EndsAlike : ℕ → State → State → ℕ → TaskEnd → Type 0
 EndsAlike n s t steps end =
-    Invariant s → is_task s ≡ true → Same s t → AreInstructions steps s → Ends n steps (after steps s) end →
-    AreInstructions steps t × Ends n steps (after steps t) end × (events_of steps t ≡ events_of steps s)
+    Invariant s → is_task s ≡ true → Same s t → AreInstructions steps s → EndsTask n steps (after steps s) end →
+    AreInstructions steps t × EndsTask n steps (after steps t) end × (events_of steps t ≡ events_of steps s)
 
 -- ---- two runs
 
@@ -109,7 +109,7 @@ EndsAlike n s t steps end =
 pub record EndsAfter (n : ℕ) (s : State) (steps : ℕ) (end : TaskEnd) : Type 0 where
   pub few : steps ≤ n
   pub instructions : AreInstructions steps s
-  pub ends : Ends n steps (after steps s) end
+  pub ends : EndsTask n steps (after steps s) end
 
 -- a run of at most n steps from a state ends in one way: after one number of steps, for one reason
 abbrev pub EndsInOneWay : ℕ → State → ℕ → ℕ → TaskEnd → TaskEnd → Type 0

@@ -30,8 +30,8 @@ AreInstructions n s = (k : ℕ) → k < n → is_instruction_next (after k s) �
 
 -- why a run of at most n steps ended after `steps` of them: the machine stopped; or all n steps were made; or the next
 -- one wouldn't be an Instruction step
-abbrev pub Ends : ℕ → ℕ → State → TaskEnd → Type 0
-Ends n steps last task_end.Done = (steps ≡ n) × (last.stop ≡ None)
-Ends n steps last task_end.Other = (steps < n) × (last.stop ≡ None) × (is_instruction_next last ≡ false)
-Ends n steps last (task_end.Stopped why) = last.stop ≡ Some why
-Ends n steps last task_end.NotTask = ⊥
+abbrev pub EndsTask : ℕ → ℕ → State → TaskEnd → Type 0
+EndsTask n steps last task_end.Done = (steps ≡ n) × (last.stop ≡ None)
+EndsTask n steps last task_end.Other = (steps < n) × (last.stop ≡ None) × (is_instruction_next last ≡ false)
+EndsTask n steps last (task_end.Stopped why) = last.stop ≡ Some why
+EndsTask n steps last task_end.NotTask = ⊥

@@ -6,7 +6,7 @@ ghost use Rattle.debugger.specs.Slots.{HaveRoom};
 use board::Board;
 use debugger::{Slots, session};
 use elf::load;
-use machine::{Decider, DueTicks, Fast, KeptCode, Layout, Levels, Machine, Over};
+use machine::{Decider, Exceptions, Fast, KeptCode, Layout, Machine, Over, SysTickState};
 use std::alloc::Global;
 use std::io;
 use std::io::Write;
@@ -66,21 +66,21 @@ fn write_line<W: Write>(path: &str, line: &[u8], out: &mut W) -> io::Result<()> 
 fn answers_of(alloc: Global, board: &Board, commands: &[u8], image: &[u8]) -> Option<Vec<u8>> {
     let image = load(image).ok()?;
     let mut machine = Fast::new(alloc, &image, board).ok()?;
-    talk(alloc, &mut machine, board.layout, commands)
+    run_session(alloc, &mut machine, board.layout, commands)
 }
 
 /// Holds a session of a machine, and returns its answers.
-fn talk<D: Decider, C: KeptCode, L: Levels, U: DueTicks>(
+fn run_session<D: Decider, C: KeptCode, L: Exceptions, U: SysTickState>(
     alloc: Global,
     machine: &mut Machine<D, C, L, U>,
     layout: Layout,
     commands: &[u8],
 ) -> Option<Vec<u8>> {
-    hear::<D, C, L, U, Brand>(alloc, machine, layout, commands, Blank::new(1))
+    session_over::<D, C, L, U, Brand>(alloc, machine, layout, commands, Blank::new(1))
 }
 
 /// Holds a session of a machine: makes the reader, whose ledger `blank` is of.
-fn hear<D: Decider, C: KeptCode, L: Levels, U: DueTicks, K: Ledger>(
+fn session_over<D: Decider, C: KeptCode, L: Exceptions, U: SysTickState, K: Ledger>(
     alloc: Global,
     machine: &mut Machine<D, C, L, U>,
     layout: Layout,
@@ -106,7 +106,7 @@ fn hear<D: Decider, C: KeptCode, L: Levels, U: DueTicks, K: Ledger>(
 }
 
 /// Holds a session of a machine, and returns its answers after those of `answers`.
-fn answer<D: Decider, C: KeptCode, L: Levels, U: DueTicks, J: Ledger, K: Ledger>(
+fn answer<D: Decider, C: KeptCode, L: Exceptions, U: SysTickState, J: Ledger, K: Ledger>(
     machine: &mut Machine<D, C, L, U>,
     layout: Layout,
     slots: Slots<L, U>,

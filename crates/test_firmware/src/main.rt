@@ -18,7 +18,7 @@ use std::{env, fs, io};
 const USAGE: &str = "usage: test_firmware [--fast | --alike COMMANDS IMAGE OTHER] BOARD IMAGE..";
 
 /// How many steps an image has at most.
-const MOST_STEPS: u32 = 20_000_000;
+const MAX_STEPS: u32 = 20_000_000;
 
 fn main(rt: HostRuntime) -> io::Result<()> {
     let mut words = env::args(&rt)?;
@@ -99,7 +99,7 @@ fn run_fast<W: Write>(
         return out.write_all(b"the machine doesn't start\n");
     };
     let mut events = Events::new();
-    for _ in 0..MOST_STEPS {
+    for _ in 0..MAX_STEPS {
         let stop = machine.step(&mut events);
         write_console(events.as_slice(), out)?;
         if let Some(stop) = stop {
@@ -136,7 +136,7 @@ fn run_machines<W: Write>(
 ) -> io::Result<Option<Stop>> {
     let mut events = Events::new();
     let mut others = Events::new();
-    for _ in 0..MOST_STEPS {
+    for _ in 0..MAX_STEPS {
         let stop = slow.step(&mut events);
         let other = fast.step(&mut others);
         write_console(events.as_slice(), out)?;

@@ -6,7 +6,7 @@ use data_edges_sums::SUMS;
 use decode::{Decoded, decode, is_long};
 use edge_stops::STOPS;
 use edges::EDGES;
-use exec::{Failure, Requests, Traps, finish, wants};
+use exec::{Failure, Requests, Traps, finish, plan};
 use instruction_set::registers::Register;
 use lines::Case;
 use long_data_first::LONG_DATA_FIRST;
@@ -14,7 +14,7 @@ use long_data_second::LONG_DATA_SECOND;
 use long_others_first::LONG_OTHERS_FIRST;
 use long_others_second::{LONG_OTHERS_SECOND, SPECIAL_REGISTERS};
 use memory::Memory;
-use nvic::{Levels, PlainLevels};
+use nvic::{Exceptions, PlainExceptions};
 use platform::stop::{NamedStop, Stop};
 use reference::ending::Ending;
 use reference::failure::UsageFault;
@@ -57,7 +57,7 @@ fn step(regs: &mut Regs, memory: &mut Memory) -> Result<Ending, Failure> {
         divide_by_zero: false,
         devices: false,
     };
-    wants(&coded, regs, traps, &mut requests)?;
+    plan(&coded, regs, traps, &mut requests)?;
     let mut values: ArrayVec<u32, 16> = ArrayVec::new();
     'requests: for request in requests.as_slice() {
         let _ = values.try_push(memory.carry_out(request));
@@ -67,8 +67,8 @@ fn step(regs: &mut Regs, memory: &mut Memory) -> Result<Ending, Failure> {
 
 /// Returns whether an instruction goes on to the next one. MRS and MSR do what is left of them,
 /// with masks after a reset.
-fn goes_on(regs: &mut Regs, ending: Ending) -> bool {
-    let mut levels = PlainLevels::fresh(0, 8);
+fn continues(regs: &mut Regs, ending: Ending) -> bool {
+    let mut levels = PlainExceptions::fresh(0, 8);
     match ending {
         Ending::Next => {}
         Ending::ReadSpecial(operands) => {
@@ -96,7 +96,7 @@ fn runs(case: &mut Case) -> bool {
             let long = is_long(case.memory.halfword(case.regs.pc()));
             left = left.saturating_sub(if long { 2 } else { 1 });
             match step(&mut case.regs, &mut case.memory) {
-                Ok(ending) if goes_on(&mut case.regs, ending) => {}
+                Ok(ending) if continues(&mut case.regs, ending) => {}
                 _ => return false,
             }
         }

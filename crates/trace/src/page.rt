@@ -63,7 +63,6 @@ impl<const ROOM: usize> Page<ROOM> {
         self.len == 0
     }
 
-    /// Returns the text.
     #[inline(always)]
     pub fn as_slice(&self) -> &[u8]
         ensures { result.now ≡ self.now }

@@ -4,7 +4,7 @@ ghost use Rattle.std.specs.Prelude.{◌≡◌, ◌<◌, [], ◌∷◌, ◌++◌,
 ghost use Rattle.trace.specs.Emission.{Emission, with_emitted};
 
 use bounded::Bounded;
-use platform::event::{Event, MOST_EVENTS};
+use platform::event::{Event, MAX_EVENTS};
 
 /// What takes the events of a step, one by one. A contract sees the events that it has taken so far.
 pub trait Sink {
@@ -12,14 +12,14 @@ pub trait Sink {
 
     /// Takes an event. There must be room for it.
     fn emit(&mut self, event: Event)
-        requires { length (emitted self.old).events < MOST_EVENTS }
+        requires { length (emitted self.old).events < MAX_EVENTS }
         ensures { emitted self.new ≡ with_emitted (emitted self.old) ((emitted self.old).events ++ event ∷ []) };
 }
 
 /// The events of one step, in their order.
-pub type Events = Bounded<Event, MOST_EVENTS>;
+pub type Events = Bounded<Event, MAX_EVENTS>;
 
-impl Sink for Bounded<Event, MOST_EVENTS> {
+impl Sink for Bounded<Event, MAX_EVENTS> {
     ghost emitted = { λ list. record { writer = 0; written = None; errors = 0; events = list.items } };
 
     #[inline(always)]

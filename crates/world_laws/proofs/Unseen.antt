@@ -7,7 +7,7 @@ use Rattle.std.proofs.lemmas.List.{get_or_past, length-replicate}
 use Rattle.access_map.proofs.SameSettings.{same_decisions}
 use Rattle.access_map.specs.declared.world.Place.TheVariants.{Ram, SecondRam}
 use Rattle.access_map.specs.declared.world.World.{World}
-use Rattle.access_map.specs.Sharing.{AreApart, is_shared, is_in_ram}
+use Rattle.access_map.specs.Sharing.{AreWorldsApart, is_shared, is_in_ram}
 use Rattle.access_map.specs.Settings.{IsSameSetting}
 use Rattle.access_map.specs.Worlds.{decision_in, first_of, is_in_place, rights_at, size_of}
 use Rattle.platform.specs.Boards.{Numbers, RamSpan, blank, blank_second}
@@ -48,12 +48,14 @@ unfolding is_shared
 unwritten board v w a there sees none = not_carried (is_in_ram board a) (may_write v a) (may_see w a) there sees none
 
 -- a block whose bytes of RAM the world sees isn't one that a world apart from it may write
-module _ (board : Numbers) (v w : World) (s : State) (apart : AreApart board v w []) (here : IsSameSetting w (world_of s))
+module _ (board : Numbers) (v w : World) (s : State) (apart : AreWorldsApart board v w [])
+    (here : IsSameSetting w (world_of s))
   where
     seen_kept : (a : ℕ) → is_in_ram board a ≡ true → is_seen s a ≡ true → not (may_write v a) ≡ true
     seen_kept a there sees = unwritten board v w a there (seen_is w s a here ∙ sees) (apart a).0
 
-    same_block : (b c : Block) → (b.is_writable ≡ true → (k : ℕ) → k < length b.bytes → is_in_ram board (b.base + k) ≡ true)
+    same_block : (b c : Block)
+        → (b.is_writable ≡ true → (k : ℕ) → k < length b.bytes → is_in_ram board (b.base + k) ≡ true)
         → BlocksAgree (λ a. not (b.is_writable && may_write v a)) b c → BlocksAgree (is_seen s) b c
     same_block b c rams agree = record {
       base = agree.base;
@@ -93,7 +95,8 @@ in_place : (board : Numbers) (place : Place) (k : ℕ) → k < size_of board pla
     → is_in_place board place (first_of board place + k) ≡ true
 in_place board place k below = grind (arith, nat_tests, below)
 
-in_first : (board : Numbers) (k : ℕ) → k < length {A = ℕ} (replicate board.ram_size 0) → is_in_ram board (ram_base + k) ≡ true
+in_first : (board : Numbers) (k : ℕ) → k < length {A = ℕ} (replicate board.ram_size 0) → is_in_ram board (ram_base + k)
+    ≡ true
 in_first board k below =
     let inside : k < board.ram_size = rw length-replicate at below in
     ap (λ (b : Bool). b || is_in_place board SecondRam (ram_base + k)) (in_place board Ram k inside)

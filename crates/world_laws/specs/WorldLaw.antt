@@ -4,7 +4,7 @@ use Rattle.std.specs.Prelude.{◌∷◌, length}
 use Rattle.access_map.specs.declared.world.Place.TheVariants.{Ram}
 use Rattle.access_map.specs.declared.world.World.{World}
 use Rattle.access_map.specs.Settings.{IsSameSetting}
-use Rattle.access_map.specs.Sharing.{AreApart, is_in_ram}
+use Rattle.access_map.specs.Sharing.{AreWorldsApart, is_in_ram}
 use Rattle.access_map.specs.Worlds.{rights_at}
 use Rattle.platform.specs.Boards.{Numbers}
 use Rattle.platform.specs.Memory.{BlocksAgree, Memory}
@@ -66,7 +66,8 @@ pub record RunsIn (w : World) (s : State) (n : ℕ) : Type 0 where
   pub unprivileged : runs_unprivileged s ≡ true
   pub instructions : AreInstructions n s
 
--- a run from u in world v: a state with the RAMs of u and the same state with the RAMs after the run agree in everything
+-- a run from u in world v: a state with the RAMs of u and the same state with the RAMs after the run agree in
+-- everything
 -- but bytes of RAM that v may write
 abbrev pub WritesLaw : World → State → State → ℕ → Type 0
 WritesLaw v u s n = RunsIn v u n → HaveSameRams s u → AgreeButWritten v s (with_rams_of s (after n u).bus.memory)
@@ -74,7 +75,7 @@ WritesLaw v u s n = RunsIn v u n → HaveSameRams s u → AgreeButWritten v s (w
 -- world v is apart from world w, with no address allowed, on a board whose RAMs s has, and t is s but for bytes of RAM
 -- that v may write
 pub record WroteApart (board : Numbers) (v w : World) (s t : State) : Type 0 where
-  pub apart : AreApart board v w []
+  pub apart : AreWorldsApart board v w []
   pub rams : HasRamsOf board s.bus.memory
   pub written : AgreeButWritten v s t
 
@@ -91,7 +92,7 @@ WorldRunLaw board v w s t n = RunsIn w s n → WroteApart board v w s t → RunA
 -- s is the same with the RAMs that the run from u left
 abbrev pub ApartLaw : Numbers → World → World → State → State → ℕ → ℕ → Type 0
 ApartLaw board v w u s m n =
-    AreApart board v w [] → HasRamsOf board s.bus.memory → HaveSameRams s u →
+    AreWorldsApart board v w [] → HasRamsOf board s.bus.memory → HaveSameRams s u →
     RunsIn v u m → RunsIn w s n → RunAlike n s (with_rams_of s (after m u).bus.memory)
 
 -- where a task runs in s, or the machine has stopped: a run of at most n Instruction steps from t ended as one from s

@@ -7,27 +7,27 @@ use Rattle.reference.specs.Run.{after}
 use Rattle.reference.specs.State.{State}
 use Rattle.reference.specs.Step.{step}
 use Rattle.machine.proofs.Running.{after_more, after_stop, all_made}
-use Rattle.machine.specs.Whole.{Whole}
+use Rattle.machine.specs.MachineModel.{MachineModel}
 use Rattle.access_map.specs.Counting.{Worlds}
 use Rattle.task_laws.specs.Foresight.{is_instruction, is_instruction_next, kind_unless_stopped}
 use Rattle.world_run.specs.WorldRuns.{runs_in_world, with_step, worlds_after}
 
-pub none_made : (m : Whole) → m ≡ record m { state = after 0 m.state }
+pub none_made : (m : MachineModel) → m ≡ record m { state = after 0 m.state }
 unfolding after
 none_made m = refl
 
 -- one step more was made
-pub machine_on : (n : ℕ) (first m next : Whole) → m ≡ record first { state = after n first.state }
+pub machine_on : (n : ℕ) (first m next : MachineModel) → m ≡ record first { state = after n first.state }
     → next ≡ record m { state = (step m.state).state } → next ≡ record first { state = after (n + 1) first.state }
 machine_on n first m next now made =
-    made ∙ ap (λ (w : Whole). record w { state = (step w.state).state }) now
+    made ∙ ap (λ (w : MachineModel). record w { state = (step w.state).state }) now
     ∙ ap (λ (s : State). record first { state = s }) (sym (after_more n first.state))
 
 -- all steps were made
-pub whole_made : (limit n : ℕ) (first m : Whole) → n ≤ limit → m ≡ record first { state = after n first.state }
+pub whole_made : (limit n : ℕ) (first m : MachineModel) → n ≤ limit → m ≡ record first { state = after n first.state }
     → (n ≡ limit) ⊎ IsSome m.state.stop → m ≡ record first { state = after limit first.state }
 whole_made limit n first m few now ends =
-    let core = ap (λ (w : Whole). w.state) now in
+    let core = ap (λ (w : MachineModel). w.state) now in
     let last = all_made limit n first.state m.state few core ends in
     now ∙ ap (λ (s : State). record first { state = s }) (sym core ∙ last)
 

@@ -6,7 +6,7 @@ ghost use Rattle.access_map.specs.Counting.{counted};
 ghost use Rattle.world_run.specs.WorldRuns.{next_tick, with_step, world_of};
 
 use access_map::{World, Worlds};
-use machine::{Decider, DueTicks, KeptCode, Levels, Machine, is_instruction};
+use machine::{Decider, Exceptions, KeptCode, Machine, SysTickState, is_instruction};
 use mpu::MpuRegs;
 use std::marker::Model;
 
@@ -45,7 +45,6 @@ impl WorldCount {
         }
     }
 
-    /// Returns the worlds so far.
     pub fn worlds(&self) -> &Worlds
         ensures { result.now ≡ self.now.worlds }
     {
@@ -53,7 +52,7 @@ impl WorldCount {
     }
 
     /// Takes the registers of the MPU of a machine before its run.
-    pub fn begin<D: Decider, C: KeptCode, L: Levels, U: DueTicks>(
+    pub fn begin<D: Decider, C: KeptCode, L: Exceptions, U: SysTickState>(
         &mut self,
         machine: &Machine<D, C, L, U>,
     )
@@ -66,7 +65,7 @@ impl WorldCount {
     /// Counts the next step of a machine, if it runs in a world.
     #[inline(always)]
     #[tactic(auto, unfolding(crate::specs::WorldRuns::with_step, crate::specs::WorldRuns::runs_in_world))]
-    pub fn count_next<D: Decider, C: KeptCode, L: Levels, U: DueTicks>(
+    pub fn count_next<D: Decider, C: KeptCode, L: Exceptions, U: SysTickState>(
         &mut self,
         machine: &Machine<D, C, L, U>,
     )
@@ -81,7 +80,7 @@ impl WorldCount {
 
     /// Counts the next step of a machine, an Instruction step at a PC, in the world of the machine.
     #[tactic(auto, using(crate::proofs::Stepping::counted_now, crate::proofs::Stepping::clock_goes_on))]
-    fn count<D: Decider, C: KeptCode, L: Levels, U: DueTicks>(
+    fn count<D: Decider, C: KeptCode, L: Exceptions, U: SysTickState>(
         &mut self,
         machine: &Machine<D, C, L, U>,
         pc: u32,
@@ -109,7 +108,7 @@ impl WorldCount {
     /// Follows a machine after a step: takes the registers of the MPU where the step wrote to the Private Peripheral
     /// Bus. Without such a write they are as before.
     #[inline(always)]
-    pub fn follow<D: Decider, C: KeptCode, L: Levels, U: DueTicks>(
+    pub fn follow<D: Decider, C: KeptCode, L: Exceptions, U: SysTickState>(
         &mut self,
         machine: &Machine<D, C, L, U>,
         wrote_system: bool,

@@ -11,12 +11,12 @@ mod count;
 mod writes;
 
 pub use count::WorldCount;
-use machine::{Decider, DueTicks, KeptCode, Levels, Machine, Stop};
+use machine::{Decider, Exceptions, KeptCode, Machine, Stop, SysTickState};
 use writes::SystemWrites;
 
 /// Makes at most `limit` steps, up to the first stop, and counts those that run in a world. Writes nothing. Returns the
 /// stop, `StepLimit` where the machine hasn't stopped.
-pub fn world_run<D: Decider, C: KeptCode, L: Levels, U: DueTicks>(
+pub fn world_run<D: Decider, C: KeptCode, L: Exceptions, U: SysTickState>(
     machine: &mut Machine<D, C, L, U>,
     limit: u64,
     count: &mut WorldCount,
@@ -40,7 +40,7 @@ pub fn world_run<D: Decider, C: KeptCode, L: Levels, U: DueTicks>(
 /// Makes a step, and counts it if it runs in a world.
 #[inline(always)]
 #[tactic(auto, using(crate::proofs::Stepping::still_known))]
-fn world_step<D: Decider, C: KeptCode, L: Levels, U: DueTicks>(
+fn world_step<D: Decider, C: KeptCode, L: Exceptions, U: SysTickState>(
     machine: &mut Machine<D, C, L, U>,
     count: &mut WorldCount,
 )

@@ -7,7 +7,7 @@ use Rattle.std.proofs.lemmas.Str.Ascii.{IsAscii-nil}
 use Rattle.std.specs.List.{list_all}
 use Rattle.std.specs.Str.{IsAscii}
 use Rattle.symbols.specs.declared.symbol.Symbol.{Symbol}
-use Rattle.symbols.specs.Named.{IsNameless, Names}
+use Rattle.symbols.specs.Named.{IsNameless, NamesAddress}
 use Rattle.symbols.specs.Tables.{name_in}
 use Rattle.world_text.specs.Names.{is_visible, name_of, visible_name}
 
@@ -35,7 +35,7 @@ nameless_shows_none strings (Some s) h = lead (list_all is_visible (name_in stri
 
 -- an address with a name shows it, if it is visible
 pub named_shows_name : (strings : List ℕ) (a : ℕ) (o : Option Symbol) (name : List ℕ) (offset : ℕ)
-    → Names strings a o name offset → visible_name name ≡ name_of strings o
+    → NamesAddress strings a o name offset → visible_name name ≡ name_of strings o
 named_shows_name strings a None name offset h = absurd h
 named_shows_name strings a (Some s) name offset h = ap visible_name h.0
 

@@ -7,7 +7,7 @@ use Rattle.access_map.specs.declared.world.World.{World}
 use Rattle.access_map.specs.Counting.{Worlds}
 use Rattle.access_map.specs.Lines.{map_text, others_text, pair_text, world_line}
 use Rattle.access_map.specs.Maps.{IsMapOf}
-use Rattle.access_map.specs.Sharing.{AreApart, AreShared}
+use Rattle.access_map.specs.Sharing.{AreWorldsApart, AreShared}
 use Rattle.mpu.specs.declared.spans.Span.{Span}
 use Rattle.platform.specs.declared.stop.Stop.{Stop}
 use Rattle.platform.specs.Boards.{Numbers}
@@ -75,5 +75,5 @@ pub record IsWorldsText (board : Numbers) (name : ℕ → List ℕ) (allowed : L
 
 -- every two worlds are apart, and there are no steps in further ones
 pub record AreAllApart (board : Numbers) (allowed : List Span) (v : Worlds) : Type 0 where
-  pub pairs : AllPairs (λ row other. AreApart board row.world other.world allowed) (take v.used v.rows)
+  pub pairs : AllPairs (λ row other. AreWorldsApart board row.world other.world allowed) (take v.used v.rows)
   pub no_others : v.others ≡ 0

@@ -2,7 +2,7 @@
 
 ghost use Rattle.std.specs.Bool.{Decides};
 ghost use Rattle.std.specs.List.{All, AllPairs};
-ghost use Rattle.access_map.specs.Sharing.{AreApart};
+ghost use Rattle.access_map.specs.Sharing.{AreWorldsApart};
 ghost use Rattle.platform.specs.Boards.{numbers_of};
 ghost use Rattle.world_text.specs.WorldText.{AreAllApart};
 
@@ -21,7 +21,7 @@ pub fn are_all_apart(board: &Layout, allowed: &[Span], worlds: &Worlds) -> bool
 /// Returns whether every two of these worlds are apart.
 fn are_pairs_apart(board: &Layout, allowed: &[Span], rows: &[WorldSteps]) -> bool
     ensures { Decides result
-        (AllPairs (λ row other. AreApart (numbers_of board.now) row.world other.world allowed.now) rows.now) }
+        (AllPairs (λ row other. AreWorldsApart (numbers_of board.now) row.world other.world allowed.now) rows.now) }
 {
     'each: for (place, row) in rows.iter().enumerate() {
         if !is_apart_from_all(board, allowed, &row.world, rows_after(rows, place)) {
@@ -34,7 +34,7 @@ fn are_pairs_apart(board: &Layout, allowed: &[Span], rows: &[WorldSteps]) -> boo
 /// Returns whether a world is apart from all others of a list.
 fn is_apart_from_all(board: &Layout, allowed: &[Span], world: &World, others: &[WorldSteps]) -> bool
     ensures { Decides result
-        (All (λ other. AreApart (numbers_of board.now) world.now other.world allowed.now) others.now) }
+        (All (λ other. AreWorldsApart (numbers_of board.now) world.now other.world allowed.now) others.now) }
 {
     others
         .iter()

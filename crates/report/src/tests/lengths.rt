@@ -13,12 +13,12 @@ use platform::event::RecordedFault;
 use std::str;
 use std::test::*;
 use survey::{
-    MOST_BYTES, MOST_CELLS, MOST_COLUMNS, MOST_ROWS, MOST_SETTINGS, Moment, Survey, Touch, WAYS,
+    MAX_BYTES, MAX_CELLS, MAX_COLUMNS, MAX_ROWS, MAX_SETTINGS, StepStart, Survey, Touch, WAYS,
 };
 use symbols::{Symbol, Symbols};
 
 /// The most bytes of a page: 2 MiB, for which `marm report` takes memory before the run.
-const MOST_PAGE_BYTES: usize = 0x20_0000;
+const MAX_PAGE_BYTES: usize = 0x20_0000;
 
 /// How many characters a number of 20 digits has more than one of a single digit: 19 in its attribute, and 25 with its
 /// commas.
@@ -146,7 +146,7 @@ impl Filled {
 
     /// Takes accesses by one setting more than have rows.
     fn take_settings(&mut self) -> Result<(), Fail> {
-        'settings: for setting in 0..=MOST_SETTINGS as u32 {
+        'settings: for setting in 0..=MAX_SETTINGS as u32 {
             let base = setting.wrapping_mul(256).wrapping_add(0x2000_0000);
             self.take_setting((setting % 16) as u8, base)?;
         }
@@ -155,7 +155,7 @@ impl Filled {
 
     /// Takes one fault more than have rows, each with a refused access and all bits of CFSR and HFSR.
     fn take_faults(&mut self) {
-        'rows: for pc in 0..=MOST_ROWS as u32 {
+        'rows: for pc in 0..=MAX_ROWS as u32 {
             let decided = self.refused_at(0x2000_0000, false);
             let recorded = RecordedFault {
                 exception: 12,
@@ -199,7 +199,7 @@ impl Filled {
 
     /// Touches each cell of a memory, neighbours in different ways.
     fn touch_cells(&mut self, base: u32) {
-        'cells: for cell in 0..MOST_CELLS as u32 {
+        'cells: for cell in 0..MAX_CELLS as u32 {
             let address = cell.wrapping_mul(1024).wrapping_add(base);
             self.touch(address, Touch::Refused);
             if cell % 2 == 0 {
@@ -211,12 +211,12 @@ impl Filled {
     }
 
     /// Returns what runs at a tick of a column: code of both privileges, 25 handlers, and sleep.
-    fn moment(&self, tick: usize) -> Moment {
+    fn moment(&self, tick: usize) -> StepStart {
         let exception = match tick {
             2..27 => tick as u16 + 200,
             _ => 0,
         };
-        Moment {
+        StepStart {
             pc: 0,
             exception,
             privileged: tick != 0,
@@ -237,7 +237,7 @@ impl Filled {
             rule: Rule::PrivatePeripheralBus,
             refused: None,
         };
-        'ticks: for tick in 0..MOST_COLUMNS * COLUMN_TICKS {
+        'ticks: for tick in 0..MAX_COLUMNS * COLUMN_TICKS {
             let is_marked = tick / COLUMN_TICKS % 2 == 0;
             let moment = self.moment(if is_marked { tick % COLUMN_TICKS } else { 31 });
             self.survey.begin_step(&moment);
@@ -250,7 +250,7 @@ impl Filled {
 
     /// Prints one byte more than is shown, each of which HTML acts on.
     fn print(&mut self) {
-        'bytes: for _ in 0..=MOST_BYTES {
+        'bytes: for _ in 0..=MAX_BYTES {
             self.survey.console.take_byte(b'"');
         }
     }
@@ -345,7 +345,7 @@ fn the_longest_page_has_less_than_2_mebibytes(rt: HostRuntime) -> Result<(), Fai
         )
     );
     assert!(rt;
-        most < MOST_PAGE_BYTES,
+        most < MAX_PAGE_BYTES,
         "{most} bytes, of which {digits} are of digits"
     );
     Ok(())

@@ -7,7 +7,7 @@ use machine::{Board, Events, Fast, SMALL_BOARD, Stop};
 use std::io::Write;
 use std::test::*;
 use std::{io, str};
-use survey::{Moment, Survey};
+use survey::{StepStart, Survey};
 use symbols::{Symbol, Symbols};
 
 /// MOV R0, #5 and BKPT 0 at address 8: `examples/first.elf`.
@@ -42,7 +42,7 @@ impl Write for Room {
 /// Makes a step of a machine, and adds it to a survey.
 fn survey_step(machine: &mut Fast, survey: &mut Survey) -> Option<Stop> {
     let mut events = Events::new();
-    let moment = Moment {
+    let moment = StepStart {
         pc: machine.regs().pc,
         exception: 0,
         privileged: true,

@@ -1,6 +1,6 @@
 use Rattle.std.proofs.Common.{◌≡◌, ◌⊎◌, inl, inr, ◌∙◌, sym, ap, arith, IsSome, is_some, false}
 use Rattle.machine.proofs.Running.{ends_so, not_some}
-use Rattle.machine.specs.Whole.{Whole}
+use Rattle.machine.specs.MachineModel.{MachineModel}
 use Rattle.survey_run.proofs.Counted.{all_surveyed, machine_on, none_made, none_surveyed, surveyed_on, whole_made}
 use Rattle.world_run.specs.Seen.{Counting}
 use Rattle.world_run.proofs.Counted.{all_counted, counted_on, none_counted}
@@ -15,14 +15,14 @@ steps-init g c = record {
   worlds =
       ap (λ (k : Counting). k.worlds) c.begin.ensures
       ∙ sym (none_counted c.args.machine.now.state c.args.count.now.worlds);
-  moment = c.moment_of-moment.ensures;
+  start = c.step_start_of-start.ensures;
   mpu = ap (λ (k : Counting). k.mpu) c.begin.ensures;
 }
 
 pub steps-preserved : goal.steps-preserved
 steps-preserved g c =
     let going : is_some c.steps.machine.state.stop ≡ false = cc in
-    let now = ap (λ (m : Whole). m.state) c.steps.invariant.machine in
+    let now = ap (λ (m : MachineModel). m.state) c.steps.invariant.machine in
     record {
       few = omega arith;
       machine = machine_on _ _ _ _ c.steps.invariant.machine c.survey_step.ensures.state;
@@ -30,7 +30,7 @@ steps-preserved g c =
           c.survey_step.ensures.survey
           ∙ surveyed_on _ _ _ _ _ now (not_some _ going) c.steps.invariant.counted;
       worlds = c.survey_step.ensures.worlds ∙ counted_on _ _ _ _ _ now c.steps.invariant.worlds;
-      moment = c.survey_step.ensures.moment;
+      start = c.survey_step.ensures.start;
       mpu = c.survey_step.ensures.mpu;
     }
 
@@ -44,14 +44,14 @@ pub returns-clause-survey : goal.returns-clause-survey
 returns-clause-survey g c =
     let ends : (c.steps.made ≡ c.args.limit) ⊎ IsSome c.steps.machine.state.stop =
     elim c.steps-test.branch [ else-steps-test w ↦ inl (omega arith) | then-steps-test+then-is_some w ↦ inr cc ] in
-    let now = ap (λ (m : Whole). m.state) c.steps.invariant.machine in
+    let now = ap (λ (m : MachineModel). m.state) c.steps.invariant.machine in
     all_surveyed _ _ _ _ _ _ c.steps.invariant.few now c.steps.invariant.counted ends
 
 pub returns-clause-worlds : goal.returns-clause-worlds
 returns-clause-worlds g c =
     let ends : (c.steps.made ≡ c.args.limit) ⊎ IsSome c.steps.machine.state.stop =
     elim c.steps-test.branch [ else-steps-test w ↦ inl (omega arith) | then-steps-test+then-is_some w ↦ inr cc ] in
-    let now = ap (λ (m : Whole). m.state) c.steps.invariant.machine in
+    let now = ap (λ (m : MachineModel). m.state) c.steps.invariant.machine in
     all_counted _ _ _ _ _ _ c.steps.invariant.few now c.steps.invariant.worlds ends
 
 pub returns-clause-stop : goal.returns-clause-stop
@@ -59,4 +59,4 @@ returns-clause-stop g c =
     let ends : (c.steps.made ≡ c.args.limit) ⊎ IsSome c.steps.machine.state.stop =
     elim c.steps-test.branch [ else-steps-test w ↦ inl (omega arith) | then-steps-test+then-is_some w ↦ inr cc ] in
     let whole = whole_made _ _ _ _ c.steps.invariant.few c.steps.invariant.machine ends in
-    ends_so _ _ _ _ (cc) (ap (λ (m : Whole). m.state) whole)
+    ends_so _ _ _ _ (cc) (ap (λ (m : MachineModel). m.state) whole)

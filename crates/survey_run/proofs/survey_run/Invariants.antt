@@ -1,6 +1,6 @@
 use Rattle.std.proofs.Common.{◌≡◌, ◌-◌, ◌≤◌}
 use Rattle.reference.specs.Run.{after}
-use Rattle.survey.specs.Surveys.{moment_of, surveyed}
+use Rattle.survey.specs.Surveys.{step_start_of, surveyed}
 use Rattle.world_run.specs.WorldRuns.{worlds_after}
 use Rattle.survey_run.proofs.survey_run.Given as goal
 
@@ -10,7 +10,7 @@ invariant-steps g l = record {
   machine : l.machine ≡ record l.fn.machine { state = after l.made l.fn.machine.state };
   counted : l.survey ≡ surveyed l.made l.fn.machine.state l.fn.survey;
   worlds : l.count.worlds ≡ worlds_after l.made l.fn.machine.state l.fn.count.worlds;
-  moment : l.moment ≡ moment_of l.machine.state;
+  start : l.start ≡ step_start_of l.machine.state;
   mpu : l.count.mpu ≡ l.machine.state.bus.system.mpu;
 }
 

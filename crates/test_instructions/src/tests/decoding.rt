@@ -3,7 +3,7 @@
 ghost use Rattle.std.specs.Prelude.{◌<◌};
 
 use assembled::{COPROCESSORS, LONG_CONTROL, LONG_DATA, LONG_OTHERS, SHORT, UNDEFINED};
-use decode::{Decoded, KeptCode, Reread, decode, is_long};
+use decode::{DecodeEachTime, Decoded, KeptCode, decode, is_long};
 use decode_table::BoardDecodeTable;
 use operands::all_operands;
 use std::alloc::Global;
@@ -139,7 +139,9 @@ fn lengths() -> Result<(), Fail> {
 
 #[test]
 fn lines_are_read_again(rt: HostRuntime) -> Result<(), Fail> {
-    let mut table = Reread::fresh(rt.alloc(), 0x800).ok().ok_or("no memory")?;
+    let mut table = DecodeEachTime::fresh(rt.alloc(), 0x800)
+        .ok()
+        .ok_or("no memory")?;
     table.wrote(0x100, 4);
     let decoded = table.fetch(0x100, 0xDE00, 0);
     assert!(rt; matches!(decoded, Decoded::Undefined), "UDF");

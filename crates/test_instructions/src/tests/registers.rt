@@ -102,7 +102,7 @@ impl Rows for Next {
         let mut registers = Regs::reset(0, number_at(part(row, 0), 0)?);
         let number = number_at(part(row, 1), 1)?;
         if is_first(word(part(row, 1), 0), "on", "to")? {
-            registers.go_on(number);
+            registers.advance_pc(number);
         } else {
             registers.branch(number);
         }

@@ -2,8 +2,10 @@
 
 use super::memory::blank;
 use super::words::{request, rule_word};
-use access::{Bus, Cause, CodeMemory, Counting, Performed, PlainLevels, Script, Search, System};
-use decode::Reread;
+use access::{
+    Bus, Cause, CodeMemory, EagerSysTick, Performed, PlainExceptions, Script, Search, System,
+};
+use decode::DecodeEachTime;
 use devices::Devices;
 use std::test::*;
 use test_tables::{Rows, check, part, word};
@@ -21,7 +23,7 @@ fn words_of(performed: Performed) -> (&'static str, &'static str) {
 /// The bus that the accesses of rows go to.
 #[derive(Drop)]
 struct Accesses {
-    bus: Bus<Search, Reread, PlainLevels, Counting>,
+    bus: Bus<Search, DecodeEachTime, PlainExceptions, EagerSysTick>,
 }
 
 impl Rows for Accesses {

@@ -765,6 +765,6 @@ const CROWDS: &str = "\
 10001 | OutOfRange | one more, so none is looked at";
 
 #[test]
-fn most_events(rt: HostRuntime) -> Result<(), Fail> {
+fn max_events(rt: HostRuntime) -> Result<(), Fail> {
     check(CROWDS, &mut Crowds { alloc: rt.alloc() })
 }

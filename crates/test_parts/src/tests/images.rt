@@ -264,7 +264,7 @@ fn are_64_taken() -> Option<bool> {
 }
 
 #[test]
-fn most_program_headers(rt: HostRuntime) {
+fn max_program_headers(rt: HostRuntime) {
     assert!(rt; are_64_taken() == Some(true), "64 program headers");
 }
 

@@ -2,7 +2,7 @@
 
 use super::settings::{registers_of, write_pairs};
 use super::words::{ALL_KINDS, rule_word};
-use clock::{Ahead, Clock, Script, ScriptedEvent, Signal};
+use clock::{Clock, LazySysTick, Script, ScriptedEvent, Signal};
 use mpu::{Decider, Decision, Kind, MpuRegs, Search};
 use mpu_table::{KeptDecisions, Table};
 use std::test::*;
@@ -182,7 +182,7 @@ fn rules_of_data_are_kept_until_the_registers_are_written(rt: HostRuntime) {
 
 #[test]
 fn nothing_is_due_before_the_tick_that_is_kept(rt: HostRuntime) -> Result<(), Fail> {
-    let mut clock = Clock::<Ahead>::new(Script::new(rt.alloc(), &[])?);
+    let mut clock = Clock::<LazySysTick>::new(Script::new(rt.alloc(), &[])?);
     clock.write_rvr(2);
     clock.write_csr(3);
     assert!(rt; *clock.due() == 3);
@@ -206,9 +206,9 @@ fn an_event_in_the_last_tick_is_due_there(rt: HostRuntime) -> Result<(), Fail> {
         at: LAST,
         what: Signal::Nmi,
     })?;
-    let clock = Clock::<Ahead>::new(Script::new(rt.alloc(), script.as_slice())?);
+    let clock = Clock::<LazySysTick>::new(Script::new(rt.alloc(), script.as_slice())?);
     assert!(rt; *clock.due() == LAST);
-    let clock = Clock::<Ahead>::new(Script::new(rt.alloc(), &[])?);
+    let clock = Clock::<LazySysTick>::new(Script::new(rt.alloc(), &[])?);
     assert!(rt; *clock.due() == LAST + 1);
     Ok(())
 }

@@ -1,6 +1,6 @@
 //! Exceptions as sets of bits beside exceptions as plain sets: the same changes, the same answers.
 
-use nvic::{Escalation, Levels, PlainLevels};
+use nvic::{Escalation, Exceptions, PlainExceptions};
 use nvic_levels::BitLevels;
 use std::test::*;
 
@@ -10,7 +10,7 @@ fn next(number: u32) -> u32 {
 }
 
 /// Makes the change that a number of the list says: its kind, an exception and a byte.
-fn change<L: Levels>(levels: &mut L, number: u32) {
+fn change<L: Exceptions>(levels: &mut L, number: u32) {
     let exception = (number >> 20 & 0xFF) as u16;
     let byte = (number >> 12 & 0xFF) as u8;
     let on = number >> 11 & 1 == 1;
@@ -40,7 +40,7 @@ fn place(escalation: Escalation) -> u8 {
 }
 
 /// Returns whether both answer alike of all exceptions.
-fn agree(plain: &PlainLevels, bits: &BitLevels) -> bool {
+fn agree(plain: &PlainExceptions, bits: &BitLevels) -> bool {
     plain.best() == bits.best()
         && plain.candidate() == bits.candidate()
         && plain.candidate_unmasked() == bits.candidate_unmasked()
@@ -50,7 +50,7 @@ fn agree(plain: &PlainLevels, bits: &BitLevels) -> bool {
 }
 
 /// Returns whether both answer alike of one exception.
-fn agree_on(plain: &PlainLevels, bits: &BitLevels, exception: u16) -> bool {
+fn agree_on(plain: &PlainExceptions, bits: &BitLevels, exception: u16) -> bool {
     plain.is_pending(exception) == bits.is_pending(exception)
         && plain.is_enabled(exception) == bits.is_enabled(exception)
         && plain.is_active(exception) == bits.is_active(exception)
@@ -60,7 +60,7 @@ fn agree_on(plain: &PlainLevels, bits: &BitLevels, exception: u16) -> bool {
 
 #[test]
 fn sets_of_bits_answer_as_plain_sets(rt: HostRuntime) -> Result<(), Fail> {
-    let mut plain = PlainLevels::fresh(240, 4);
+    let mut plain = PlainExceptions::fresh(240, 4);
     let mut bits = BitLevels::fresh(240, 4);
     let mut number = 1;
     for _ in 0..2_000 {

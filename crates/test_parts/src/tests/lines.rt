@@ -5,7 +5,7 @@ use arrayvec::ArrayVec;
 use instruction_set::unpredictable::UnpredictableCase;
 use platform::access::{Cause, DecidedAccess};
 use platform::event::{Event, EventKind, RecordedFault};
-use platform::stop::{LeftOut, Stop};
+use platform::stop::{Stop, Unsupported};
 use std::test::*;
 use test_tables::{Rows, byte_at, check, halfword_at, long_at, meaning, number_at, part, word};
 use trace::digits::LineDigits;
@@ -152,7 +152,7 @@ const STOPS: [(&str, Stop); 6] = [
     ),
     (
         "OutOfProfile(ClockEnd)",
-        Stop::OutOfProfile(LeftOut::ClockEnd),
+        Stop::OutOfProfile(Unsupported::ClockEnd),
     ),
 ];
 

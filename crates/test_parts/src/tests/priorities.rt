@@ -1,17 +1,17 @@
 //! Priorities of exceptions, and which of them is taken (ARM DDI 0403, "Exception priorities and
 //! preemption"). The values are read off the manual's text.
 
-use nvic::{Escalation, Levels, Masks, PlainLevels};
+use nvic::{Escalation, Exceptions, Masks, PlainExceptions};
 use std::test::*;
 use test_tables::{Rows, byte_at, check, halfword_at, is_first, part, word};
 
 /// After a reset, on a board of 8 interrupts whose priorities have 4 bits.
-fn after_reset() -> PlainLevels {
-    PlainLevels::fresh(8, 4)
+fn after_reset() -> PlainExceptions {
+    PlainExceptions::fresh(8, 4)
 }
 
 /// An exception, whose number and priority byte have a colon between them, gets that byte; its number.
-fn prioritize(levels: &mut PlainLevels, word: &str) -> Option<u16> {
+fn prioritize(levels: &mut PlainExceptions, word: &str) -> Option<u16> {
     let (number, byte) = word.split_once(':')?;
     let number = halfword_at(number, 0)?;
     levels.set_priority(number, byte_at(byte, 0)?);
@@ -19,7 +19,7 @@ fn prioritize(levels: &mut PlainLevels, word: &str) -> Option<u16> {
 }
 
 /// Each of these exceptions gets its priority byte, and becomes active, or is enabled and pending.
-fn add(levels: &mut PlainLevels, exceptions: &str, is_active: bool) -> Option<()> {
+fn add(levels: &mut PlainExceptions, exceptions: &str, is_active: bool) -> Option<()> {
     for word in exceptions.split_whitespace() {
         let number = prioritize(levels, word)?;
         if is_active {
@@ -33,7 +33,7 @@ fn add(levels: &mut PlainLevels, exceptions: &str, is_active: bool) -> Option<()
 }
 
 /// A mask is set: nothing, `primask`, `faultmask`, or `basepri` and its priority byte.
-fn mask(levels: &mut PlainLevels, part: &str) -> Option<()> {
+fn mask(levels: &mut PlainExceptions, part: &str) -> Option<()> {
     match word(part, 0) {
         "" => {}
         "primask" => levels.set_primask(true),
@@ -45,7 +45,7 @@ fn mask(levels: &mut PlainLevels, part: &str) -> Option<()> {
 }
 
 /// On the same board: PRIGROUP, what is active, what is pending and enabled, and the mask.
-fn levels(row: &str) -> Option<PlainLevels> {
+fn levels(row: &str) -> Option<PlainExceptions> {
     let mut levels = after_reset();
     levels.set_group(byte_at(part(row, 0), 0)?);
     add(&mut levels, part(row, 1), true)?;
@@ -55,13 +55,13 @@ fn levels(row: &str) -> Option<PlainLevels> {
 }
 
 /// Returns whether the execution priority is the one wanted.
-fn has_priority(levels: &PlainLevels, wanted: &str) -> bool {
+fn has_priority(levels: &PlainExceptions, wanted: &str) -> bool {
     i16::from_str_radix(wanted, 16).ok() == Some(levels.execution_priority().number())
 }
 
 /// Returns whether the group of the byte FF is the one wanted, where this number of bits is kept.
 fn is_group(priority_bits: u8, group: u8, wanted: &str) -> bool {
-    let mut levels = PlainLevels::fresh(8, priority_bits);
+    let mut levels = PlainExceptions::fresh(8, priority_bits);
     levels.set_group(group);
     levels.set_priority(16, 0xFF);
     levels.activate(16);
@@ -242,7 +242,7 @@ impl Rows for AfterATick {
         let primask = is_first(part(row, 2), "primask", "")?;
         let wanted = part(row, 3);
         let due = set_of(number);
-        let mut levels = PlainLevels::fresh(240, 4);
+        let mut levels = PlainExceptions::fresh(240, 4);
         levels.enable(halfword_at(part(row, 1), 0)?);
         levels.set_primask(!primask);
         let foreseen = is_wanted(levels.candidate_after(&due, primask), wanted);
@@ -270,7 +270,7 @@ fn candidates_after_a_tick() -> Result<(), Fail> {
 
 /// Returns whether an exception is enabled as the words say: at last, after a reset, and once it's
 /// disabled.
-fn is_enabled_so(levels: &mut PlainLevels, number: u16, words: &str) -> bool {
+fn is_enabled_so(levels: &mut PlainExceptions, number: u16, words: &str) -> bool {
     let first = levels.is_enabled(number);
     levels.disable(number);
     let second = levels.is_enabled(number);
@@ -281,7 +281,7 @@ fn is_enabled_so(levels: &mut PlainLevels, number: u16, words: &str) -> bool {
 }
 
 /// Returns whether an exception becomes pending and active where it exists, and then neither.
-fn is_listed_so(levels: &mut PlainLevels, number: u16, exists: bool) -> bool {
+fn is_listed_so(levels: &mut PlainExceptions, number: u16, exists: bool) -> bool {
     levels.pend(number);
     levels.activate(number);
     let listed = levels.is_pending(number) == exists && levels.is_active(number) == exists;
@@ -358,7 +358,7 @@ fn are_highest(masks: Masks) -> bool {
 
 #[test]
 fn what_a_board_keeps(rt: HostRuntime) {
-    let mut levels = PlainLevels::fresh(255, 3);
+    let mut levels = PlainExceptions::fresh(255, 3);
     assert!(rt; levels.interrupts() == 240 && levels.priority_bits() == 3 && levels.group() == 0);
     levels.set_group(0xFD);
     assert!(rt; levels.group() == 5);

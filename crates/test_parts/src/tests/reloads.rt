@@ -4,8 +4,8 @@
 use super::intervals::{agree_at, edges};
 use super::memory::blank;
 use super::settings::write_pairs;
-use access::{Bus, CodeMemory, Counting, Performed, PlainLevels, Script, System};
-use decode::Reread;
+use access::{Bus, CodeMemory, EagerSysTick, Performed, PlainExceptions, Script, System};
+use decode::DecodeEachTime;
 use devices::Devices;
 use instruction_set::size::Size;
 use mpu::{Decider, MpuRegs, Search};
@@ -51,7 +51,7 @@ fn follows<D: Decider>(alloc: Global, stores: &str) -> Option<bool> {
         Script::new(alloc, &[]).ok()?,
         Devices::new(alloc, &[]).ok()?,
     );
-    let mut bus: Bus<D, Reread, PlainLevels, Counting> = Bus::new(memory, system);
+    let mut bus: Bus<D, DecodeEachTime, PlainExceptions, EagerSysTick> = Bus::new(memory, system);
     let mut registers = MpuRegs::new(8);
     let mut agrees = true;
     for word in stores.split_whitespace() {

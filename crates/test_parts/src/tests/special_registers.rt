@@ -1,10 +1,10 @@
 //! MRS, MSR and CPS (ARM DDI 0403, the operation of each), on a board with 4 priority bits.
 
-use clock::{Counting, Script};
+use clock::{EagerSysTick, Script};
 use devices::Devices;
 use instruction_set::system::{ChangeProcessorState, SpecialRegister};
 use mpu::Search;
-use nvic::PlainLevels;
+use nvic::PlainExceptions;
 use regs::Regs;
 use scs::System;
 use std::test::*;
@@ -31,7 +31,7 @@ const SPECIALS: [(&str, SpecialRegister); 14] = [
 #[derive(Drop)]
 struct Specials {
     regs: Regs,
-    system: System<Search, PlainLevels, Counting>,
+    system: System<Search, PlainExceptions, EagerSysTick>,
 }
 
 impl Specials {

@@ -2,11 +2,11 @@
 //! bits, 8 regions and flash at 00000400.
 
 use super::words::request;
-use clock::{Counting, Script};
+use clock::{EagerSysTick, Script};
 use devices::Devices;
 use instruction_set::size::Size;
 use mpu::Search;
-use nvic::PlainLevels;
+use nvic::PlainExceptions;
 use platform::access::{Access, Kind, Performed, Request, Rule};
 use platform::script::{InterruptNumber, ScriptedEvent, Signal};
 use platform::stop::{NamedStop, Stop};
@@ -15,7 +15,7 @@ use std::alloc::Global;
 use std::test::*;
 use test_tables::{Rows, byte_at, check, halfword_at, number, number_at, part, word};
 
-type PlainSystem = System<Search, PlainLevels, Counting>;
+type PlainSystem = System<Search, PlainExceptions, EagerSysTick>;
 
 /// The system after a reset, with a script.
 fn reset(script: Script, devices: Devices) -> PlainSystem {
@@ -219,7 +219,7 @@ struct Steps {
 
 impl Steps {
     /// Goes on by some ticks.
-    fn go_on(&mut self, ticks: u32) -> Option<bool> {
+    fn run_ticks(&mut self, ticks: u32) -> Option<bool> {
         'ticks: for _ in 0..ticks {
             if self.system.ticks() == 1 << 48 {
                 return None;
@@ -241,7 +241,7 @@ impl Rows for Steps {
     fn holds(&mut self, row: &str) -> Option<bool> {
         let asked = part(row, 0);
         match word(asked, 0) {
-            "tick" => return self.go_on(number_at(asked, 1)?),
+            "tick" => return self.run_ticks(number_at(asked, 1)?),
             "activate" => self.system.activate(halfword_at(asked, 1)?),
             "deactivate" => self.system.deactivate(halfword_at(asked, 1)?),
             "pend" => self.system.pend(halfword_at(asked, 1)?),

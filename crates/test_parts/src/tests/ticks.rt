@@ -1,8 +1,8 @@
 //! The clock, SysTick, the lines and scripts. The values come from the manual's text on SysTick
 //! (ARM DDI 0403, "System timer, SysTick") and from the rules of lines and scripts.
 
-use clock::{Clock, Counting, Due, Script};
-use platform::exception::MOST_INTERRUPTS;
+use clock::{Clock, Due, EagerSysTick, Script};
+use platform::exception::MAX_INTERRUPTS;
 use platform::script::{InterruptNumber, ScriptedEvent, Signal};
 use std::alloc::Global;
 use std::test::*;
@@ -27,7 +27,7 @@ fn set_of(numbers: &str) -> Option<Due> {
 /// The line of this number.
 fn line(word: &str) -> Option<InterruptNumber> {
     let number = byte_at(word, 0)?;
-    if number < MOST_INTERRUPTS {
+    if number < MAX_INTERRUPTS {
         Some(InterruptNumber::new(number))
     } else {
         None
@@ -60,7 +60,7 @@ fn add(script: &mut Vec<ScriptedEvent>, word: &str) -> Option<()> {
 }
 
 /// A clock before its first tick, with a script of these events.
-fn scripted(alloc: Global, events: &str) -> Option<Clock<Counting>> {
+fn scripted(alloc: Global, events: &str) -> Option<Clock<EagerSysTick>> {
     let mut script = Vec::new(alloc);
     for word in events.split_whitespace() {
         add(&mut script, word)?;
@@ -69,7 +69,7 @@ fn scripted(alloc: Global, events: &str) -> Option<Clock<Counting>> {
 }
 
 /// SYST_RVR and SYST_CSR are written, and the values are SYST_CSR and SYST_RVR.
-fn write(clock: &mut Clock<Counting>, values: &str) -> Option<()> {
+fn write(clock: &mut Clock<EagerSysTick>, values: &str) -> Option<()> {
     let [csr, rvr] = numbers::<2>(values)?;
     clock.write_rvr(rvr);
     clock.write_csr(csr);
@@ -77,14 +77,14 @@ fn write(clock: &mut Clock<Counting>, values: &str) -> Option<()> {
 }
 
 /// A clock before its first tick, with SYST_CSR and SYST_RVR of these values and no event.
-fn counting(alloc: Global, values: &str) -> Option<Clock<Counting>> {
+fn counting(alloc: Global, values: &str) -> Option<Clock<EagerSysTick>> {
     let mut clock = Clock::new(Script::new(alloc, &[]).ok()?);
     write(&mut clock, values)?;
     Some(clock)
 }
 
 /// A tick of a clock that isn't at its end.
-fn tick(clock: &mut Clock<Counting>) -> Option<Due> {
+fn tick(clock: &mut Clock<EagerSysTick>) -> Option<Due> {
     if clock.now() < LAST {
         Some(clock.tick_due())
     } else {
@@ -93,7 +93,7 @@ fn tick(clock: &mut Clock<Counting>) -> Option<Due> {
 }
 
 /// What the next tick of a clock that isn't at its end would pend.
-fn peek(clock: &Clock<Counting>) -> Option<Due> {
+fn peek(clock: &Clock<EagerSysTick>) -> Option<Due> {
     if clock.now() < LAST {
         Some(clock.peek())
     } else {
@@ -102,7 +102,7 @@ fn peek(clock: &Clock<Counting>) -> Option<Due> {
 }
 
 /// Returns whether SYST_CVR has these values after the ticks that come, one after another.
-fn counts_down(clock: &mut Clock<Counting>, values: &str) -> Option<bool> {
+fn counts_down(clock: &mut Clock<EagerSysTick>, values: &str) -> Option<bool> {
     for value in values.split_whitespace() {
         tick(clock)?;
         if clock.read_cvr() != number(value)? {
@@ -145,7 +145,7 @@ fn the_counter_counts(rt: HostRuntime) -> Result<(), Fail> {
 /// The clock that the ticks of rows go on.
 #[derive(Drop)]
 struct Falls {
-    clock: Clock<Counting>,
+    clock: Clock<EagerSysTick>,
 }
 
 impl Rows for Falls {
@@ -174,7 +174,7 @@ fn a_counter_whose_reload_value_is_0_still_counts_down(rt: HostRuntime) -> Resul
 }
 
 /// A number of ticks.
-fn ticks(clock: &mut Clock<Counting>, count: u8) -> Option<()> {
+fn ticks(clock: &mut Clock<EagerSysTick>, count: u8) -> Option<()> {
     for _ in 0..count {
         tick(clock)?;
     }
@@ -233,14 +233,14 @@ fn writes_to_rvr_and_cvr(rt: HostRuntime) -> Result<(), Fail> {
 }
 
 /// Returns whether a tick pends what is wanted, as it's foreseen and as it's done.
-fn pends(clock: &mut Clock<Counting>, due: Due) -> Option<bool> {
+fn pends(clock: &mut Clock<EagerSysTick>, due: Due) -> Option<bool> {
     let foreseen = peek(clock)? == due;
     Some(foreseen && tick(clock)? == due)
 }
 
 /// Returns whether the ticks that come pend SysTick's exception at each `F`, and nothing at each
 /// `-`.
-fn pends_each(clock: &mut Clock<Counting>, words: &str) -> Option<bool> {
+fn pends_each(clock: &mut Clock<EagerSysTick>, words: &str) -> Option<bool> {
     for word in words.split_whitespace() {
         let due = if is_first(word, "F", "-")? {
             SYSTICK

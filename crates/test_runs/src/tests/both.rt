@@ -6,8 +6,8 @@ use super::machines::NO_SEGMENTS;
 use super::writers::run_gathered;
 use elf::load;
 use machine::{
-    Board, Decider, DueTicks, Fast, InterruptNumber, KeptCode, Levels, Machine, Place, SMALL_BOARD,
-    ScriptedEvent, Signal, Slow,
+    Board, Decider, Exceptions, Fast, InterruptNumber, KeptCode, Machine, Place, SMALL_BOARD,
+    ScriptedEvent, Signal, Slow, SysTickState,
 };
 use std::alloc::{AllocError, Global};
 use std::test::*;
@@ -19,7 +19,7 @@ const IMAGES: u32 = 200;
 const STEPS: u64 = 2000;
 
 /// The bytes that all traces have at least.
-const LEAST_BYTES: usize = 500_000;
+const MIN_BYTES: usize = 500_000;
 
 /// Arbitrary numbers: Marsaglia's xorshift of 32 bits.
 #[derive(Drop)]
@@ -124,7 +124,7 @@ const SETTINGS: [(u32, u32, u32); 14] = [
 ];
 
 /// Places code, vectors into it, values in registers, and settings. A place that is refused stays.
-fn fill<D: Decider, C: KeptCode, L: Levels, U: DueTicks>(
+fn fill<D: Decider, C: KeptCode, L: Exceptions, U: SysTickState>(
     machine: &mut Machine<D, C, L, U>,
     numbers: &mut Numbers,
 ) {
@@ -149,7 +149,7 @@ fn fill<D: Decider, C: KeptCode, L: Levels, U: DueTicks>(
 }
 
 /// The trace of a machine over the image and the board of a seed.
-fn trace<D: Decider, C: KeptCode, L: Levels, U: DueTicks>(
+fn trace<D: Decider, C: KeptCode, L: Exceptions, U: SysTickState>(
     machine: &mut Machine<D, C, L, U>,
     alloc: Global,
     seed: u32,
@@ -176,6 +176,6 @@ fn both_machines_write_the_same(rt: HostRuntime) -> Result<(), Fail> {
         assert!(rt; slow.as_slice() == fast.as_slice(), "seed {seed}");
         bytes = bytes.saturating_add(slow.len());
     }
-    assert!(rt; bytes > LEAST_BYTES, "{bytes} bytes");
+    assert!(rt; bytes > MIN_BYTES, "{bytes} bytes");
     Ok(())
 }

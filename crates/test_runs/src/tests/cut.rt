@@ -4,7 +4,8 @@ ghost use Rattle.std.specs.Prelude.{◌≡◌};
 
 use arrayvec::ArrayVec;
 use machine::{
-    Decider, DueTicks, KeptCode, Levels, Machine, Over, RunError, Stop, TaskEnd, TraceSelection,
+    Decider, Exceptions, KeptCode, Machine, Over, RunError, Stop, SysTickState, TaskEnd,
+    TraceSelection,
 };
 use std::io;
 use std::io::{Read, Write};
@@ -86,7 +87,7 @@ impl Write for Cut {
 }
 
 /// A run of at most this number of steps.
-pub(super) fn run<D: Decider, C: KeptCode, L: Levels, U: DueTicks>(
+pub(super) fn run<D: Decider, C: KeptCode, L: Exceptions, U: SysTickState>(
     machine: &mut Machine<D, C, L, U>,
     steps: u32,
     out: &mut Cut,
@@ -94,7 +95,7 @@ pub(super) fn run<D: Decider, C: KeptCode, L: Levels, U: DueTicks>(
     run_over::<D, C, L, U, Brand>(machine, steps, out, Blank::new(1))
 }
 
-fn run_over<D: Decider, C: KeptCode, L: Levels, U: DueTicks, K: Ledger>(
+fn run_over<D: Decider, C: KeptCode, L: Exceptions, U: SysTickState, K: Ledger>(
     machine: &mut Machine<D, C, L, U>,
     steps: u32,
     out: &mut Cut,
@@ -109,7 +110,7 @@ fn run_over<D: Decider, C: KeptCode, L: Levels, U: DueTicks, K: Ledger>(
 }
 
 /// A run of at most this number of steps, of which the selected events are written.
-pub(super) fn run_selected<D: Decider, C: KeptCode, L: Levels, U: DueTicks>(
+pub(super) fn run_selected<D: Decider, C: KeptCode, L: Exceptions, U: SysTickState>(
     machine: &mut Machine<D, C, L, U>,
     selection: TraceSelection,
     steps: u32,
@@ -118,7 +119,7 @@ pub(super) fn run_selected<D: Decider, C: KeptCode, L: Levels, U: DueTicks>(
     run_selected_over::<D, C, L, U, Brand>(machine, selection, steps, out, Blank::new(1))
 }
 
-fn run_selected_over<D: Decider, C: KeptCode, L: Levels, U: DueTicks, K: Ledger>(
+fn run_selected_over<D: Decider, C: KeptCode, L: Exceptions, U: SysTickState, K: Ledger>(
     machine: &mut Machine<D, C, L, U>,
     selection: TraceSelection,
     steps: u32,
@@ -134,7 +135,7 @@ fn run_selected_over<D: Decider, C: KeptCode, L: Levels, U: DueTicks, K: Ledger>
 }
 
 /// A run of a task, of at most this number of steps.
-pub(super) fn run_task<D: Decider, C: KeptCode, L: Levels, U: DueTicks>(
+pub(super) fn run_task<D: Decider, C: KeptCode, L: Exceptions, U: SysTickState>(
     machine: &mut Machine<D, C, L, U>,
     steps: u32,
     out: &mut Cut,
@@ -142,7 +143,7 @@ pub(super) fn run_task<D: Decider, C: KeptCode, L: Levels, U: DueTicks>(
     run_task_over::<D, C, L, U, Brand>(machine, steps, out, Blank::new(1))
 }
 
-fn run_task_over<D: Decider, C: KeptCode, L: Levels, U: DueTicks, K: Ledger>(
+fn run_task_over<D: Decider, C: KeptCode, L: Exceptions, U: SysTickState, K: Ledger>(
     machine: &mut Machine<D, C, L, U>,
     steps: u32,
     out: &mut Cut,

@@ -14,9 +14,9 @@ use super::traces::TRACES;
 use arrayvec::ArrayVec;
 use debugger::{SessionError, Slots, session};
 use machine::{
-    Ahead, BitLevels, BoardDecodeTable, Buffered, Counting, Decider, DueTicks, In, KeptCode,
-    KeptDecisions, KeptPriorities, Levels, Machine, Over, Paged, PlainLevels, Reread, RunError,
-    SMALL_BOARD, Search, Slow, Stop, Table, TaskEnd, TraceSelection,
+    BitLevels, BoardDecodeTable, Buffered, Decider, DecodeEachTime, EagerSysTick, Exceptions, In,
+    KeptCode, KeptDecisions, KeptPriorities, LazySysTick, Machine, Over, Paged, PlainExceptions,
+    RunError, SMALL_BOARD, Search, Slow, Stop, SysTickState, Table, TaskEnd, TraceSelection,
 };
 use std::alloc::Global;
 use std::io;
@@ -73,7 +73,7 @@ struct Steps {
 }
 
 /// A run into a writer that is cut.
-fn run_cut<D: Decider, C: KeptCode, L: Levels, U: DueTicks>(
+fn run_cut<D: Decider, C: KeptCode, L: Exceptions, U: SysTickState>(
     machine: &mut Machine<D, C, L, U>,
     steps: Steps,
     ending: Ending,
@@ -81,7 +81,7 @@ fn run_cut<D: Decider, C: KeptCode, L: Levels, U: DueTicks>(
     run_over::<D, C, L, U, Brand>(machine, steps, ending, Blank::new(1))
 }
 
-fn run_over<D: Decider, C: KeptCode, L: Levels, U: DueTicks, K: Ledger>(
+fn run_over<D: Decider, C: KeptCode, L: Exceptions, U: SysTickState, K: Ledger>(
     machine: &mut Machine<D, C, L, U>,
     steps: Steps,
     ending: Ending,
@@ -101,7 +101,7 @@ fn run_over<D: Decider, C: KeptCode, L: Levels, U: DueTicks, K: Ledger>(
 }
 
 /// A run of a task into a writer that is cut: how it ended, and what the writer took.
-pub(super) fn run_task_cut<D: Decider, C: KeptCode, L: Levels, U: DueTicks>(
+pub(super) fn run_task_cut<D: Decider, C: KeptCode, L: Exceptions, U: SysTickState>(
     machine: &mut Machine<D, C, L, U>,
     steps: u32,
     ending: Ending,
@@ -109,7 +109,7 @@ pub(super) fn run_task_cut<D: Decider, C: KeptCode, L: Levels, U: DueTicks>(
     run_task_over::<D, C, L, U, Brand>(machine, steps, ending, Blank::new(1))
 }
 
-fn run_task_over<D: Decider, C: KeptCode, L: Levels, U: DueTicks, K: Ledger>(
+fn run_task_over<D: Decider, C: KeptCode, L: Exceptions, U: SysTickState, K: Ledger>(
     machine: &mut Machine<D, C, L, U>,
     steps: u32,
     ending: Ending,
@@ -148,12 +148,12 @@ struct CutRuns {
 impl Rows for CutRuns {
     fn holds(&mut self, text: &str) -> Option<bool> {
         Some(
-            is_cut::<Search, Reread, PlainLevels, Counting>(self.alloc, text)?
+            is_cut::<Search, DecodeEachTime, PlainExceptions, EagerSysTick>(self.alloc, text)?
                 && is_cut::<
                     KeptDecisions<Table>,
                     BoardDecodeTable,
                     KeptPriorities<BitLevels>,
-                    Ahead,
+                    LazySysTick,
                 >(self.alloc, text)?,
         )
     }
@@ -168,7 +168,7 @@ fn steps_of(selection: TraceSelection, line: &str) -> Option<Steps> {
 }
 
 /// A run that stands before its steps, and these steps.
-fn before_steps<D: Decider, C: KeptCode, L: Levels, U: DueTicks>(
+fn before_steps<D: Decider, C: KeptCode, L: Exceptions, U: SysTickState>(
     alloc: Global,
     text: &str,
 ) -> Option<(Run<D, C, L, U>, Steps)> {
@@ -190,7 +190,7 @@ fn before_steps<D: Decider, C: KeptCode, L: Levels, U: DueTicks>(
 }
 
 /// Returns whether a machine's run is cut after each byte of its trace, and takes it whole by single bytes.
-fn is_cut<D: Decider, C: KeptCode, L: Levels, U: DueTicks>(
+fn is_cut<D: Decider, C: KeptCode, L: Exceptions, U: SysTickState>(
     alloc: Global,
     text: &str,
 ) -> Option<bool> {
@@ -214,7 +214,7 @@ fn is_cut<D: Decider, C: KeptCode, L: Levels, U: DueTicks>(
 }
 
 /// Returns whether a run fails at the byte at which its writer is cut, and the machine is broken then.
-fn breaks<D: Decider, C: KeptCode, L: Levels, U: DueTicks>(
+fn breaks<D: Decider, C: KeptCode, L: Exceptions, U: SysTickState>(
     alloc: Global,
     text: &str,
     ending: Ending,
@@ -321,7 +321,7 @@ struct Held {
 }
 
 /// A session.
-fn hold<D: Decider, C: KeptCode, L: Levels, U: DueTicks>(
+fn hold<D: Decider, C: KeptCode, L: Exceptions, U: SysTickState>(
     machine: &mut Machine<D, C, L, U>,
     slots: Slots<L, U>,
     way: Way,
@@ -331,7 +331,7 @@ fn hold<D: Decider, C: KeptCode, L: Levels, U: DueTicks>(
     hold_over::<D, C, L, U, Brand, Brand>(machine, slots, way, Blank::new(1), Blank::new(1))
 }
 
-fn hold_over<D: Decider, C: KeptCode, L: Levels, U: DueTicks, J: Ledger, K: Ledger>(
+fn hold_over<D: Decider, C: KeptCode, L: Exceptions, U: SysTickState, J: Ledger, K: Ledger>(
     machine: &mut Machine<D, C, L, U>,
     slots: Slots<L, U>,
     way: Way,
@@ -373,7 +373,7 @@ fn hold_over<D: Decider, C: KeptCode, L: Levels, U: DueTicks, J: Ledger, K: Ledg
     }
 }
 
-fn gather<D: Decider, C: KeptCode, L: Levels, U: DueTicks, I: In + Drop, K: Ledger>(
+fn gather<D: Decider, C: KeptCode, L: Exceptions, U: SysTickState, I: In + Drop, K: Ledger>(
     machine: &mut Machine<D, C, L, U>,
     slots: Slots<L, U>,
     mut input: I,
@@ -429,7 +429,7 @@ fn answered(read: usize) -> usize {
 
 /// Returns whether a session fails where its writer is cut: the last step is made once the line before it is
 /// answered.
-fn fails_to_write<D: Decider, C: KeptCode, L: Levels, U: DueTicks>(
+fn fails_to_write<D: Decider, C: KeptCode, L: Exceptions, U: SysTickState>(
     alloc: Global,
     output: At,
     gathers: bool,
@@ -455,7 +455,7 @@ fn fails_to_write<D: Decider, C: KeptCode, L: Levels, U: DueTicks>(
 }
 
 /// Returns whether a session ends as it is to where its reader is cut, with this number of bytes answered.
-fn fails_to_read<D: Decider, C: KeptCode, L: Levels, U: DueTicks>(
+fn fails_to_read<D: Decider, C: KeptCode, L: Exceptions, U: SysTickState>(
     alloc: Global,
     input: At,
     gathers: bool,
@@ -490,13 +490,15 @@ fn writers_of_sessions_are_cut_at_each_byte(rt: HostRuntime) -> Result<(), Fail>
                 left,
                 fails: *fails,
             };
-            let slow = fails_to_write::<Search, Reread, PlainLevels, Counting>(alloc, at, *gathers);
+            let slow = fails_to_write::<Search, DecodeEachTime, PlainExceptions, EagerSysTick>(
+                alloc, at, *gathers,
+            );
             assert!(rt; slow == Some(true), "Slow, after {left}");
             let fast = fails_to_write::<
                 KeptDecisions<Table>,
                 BoardDecodeTable,
                 KeptPriorities<BitLevels>,
-                Ahead,
+                LazySysTick,
             >(alloc, at, *gathers);
             assert!(rt; fast == Some(true), "Fast, after {left}");
         }
@@ -536,7 +538,7 @@ fn steps_made(left: usize, gathers: bool) -> u32 {
 
 /// Returns whether a session fails where its writer is cut within the answer to a run, and the machine is after the
 /// steps that were made.
-fn fails_in_run<D: Decider, C: KeptCode, L: Levels, U: DueTicks>(
+fn fails_in_run<D: Decider, C: KeptCode, L: Exceptions, U: SysTickState>(
     alloc: Global,
     output: At,
     gathers: bool,
@@ -571,13 +573,15 @@ fn writers_of_runs_in_sessions_are_cut_at_each_byte(rt: HostRuntime) -> Result<(
                 left,
                 fails: *fails,
             };
-            let slow = fails_in_run::<Search, Reread, PlainLevels, Counting>(alloc, at, *gathers);
+            let slow = fails_in_run::<Search, DecodeEachTime, PlainExceptions, EagerSysTick>(
+                alloc, at, *gathers,
+            );
             assert!(rt; slow == Some(true), "Slow, after {left}");
             let fast = fails_in_run::<
                 KeptDecisions<Table>,
                 BoardDecodeTable,
                 KeptPriorities<BitLevels>,
-                Ahead,
+                LazySysTick,
             >(alloc, at, *gathers);
             assert!(rt; fast == Some(true), "Fast, after {left}");
         }
@@ -602,7 +606,7 @@ static WATCHED_ANSWER: [u8; 42] = *b"ok\nok\n2 S 20000000 4 p ok off\nat 0000000
 
 /// Returns whether a session fails where its writer is cut within these answers, and the machine is after the steps
 /// that were made: none where the first two lines don't go out, otherwise both.
-fn fails_at_watchpoint<D: Decider, C: KeptCode, L: Levels, U: DueTicks>(
+fn fails_at_watchpoint<D: Decider, C: KeptCode, L: Exceptions, U: SysTickState>(
     alloc: Global,
     output: At,
     gathers: bool,
@@ -636,7 +640,7 @@ fn writers_of_conditional_runs_are_cut_at_each_byte(rt: HostRuntime) -> Result<(
                 left,
                 fails: *fails,
             };
-            let slow = fails_at_watchpoint::<Search, Reread, PlainLevels, Counting>(
+            let slow = fails_at_watchpoint::<Search, DecodeEachTime, PlainExceptions, EagerSysTick>(
                 alloc, at, *gathers,
             );
             assert!(rt; slow == Some(true), "Slow, after {left}");
@@ -644,7 +648,7 @@ fn writers_of_conditional_runs_are_cut_at_each_byte(rt: HostRuntime) -> Result<(
                 KeptDecisions<Table>,
                 BoardDecodeTable,
                 KeptPriorities<BitLevels>,
-                Ahead,
+                LazySysTick,
             >(alloc, at, *gathers);
             assert!(rt; fast == Some(true), "Fast, after {left}");
         }
@@ -662,7 +666,7 @@ fn readers_of_sessions_are_cut_at_each_byte(rt: HostRuntime) -> Result<(), Fail>
         'bytes: for left in 0..=100usize {
             let at = At { left, fails: true };
             let wanted = answered(left);
-            let failed = fails_to_read::<Search, Reread, PlainLevels, Counting>(
+            let failed = fails_to_read::<Search, DecodeEachTime, PlainExceptions, EagerSysTick>(
                 alloc, at, gathers, wanted,
             );
             assert!(rt; failed == Some(true), "fails after {left}");
@@ -672,7 +676,7 @@ fn readers_of_sessions_are_cut_at_each_byte(rt: HostRuntime) -> Result<(), Fail>
                 left: *left,
                 fails: false,
             };
-            let ended = fails_to_read::<Search, Reread, PlainLevels, Counting>(
+            let ended = fails_to_read::<Search, DecodeEachTime, PlainExceptions, EagerSysTick>(
                 alloc, at, gathers, *wanted,
             );
             assert!(rt; ended == Some(true), "ends after {left}");

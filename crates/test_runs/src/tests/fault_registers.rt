@@ -4,8 +4,9 @@
 use super::cut::{Cut, run};
 use super::machines::{event, place, place_vectors, scripted};
 use machine::{
-    Ahead, BitLevels, BoardDecodeTable, Counting, Decider, DueTicks, KeptCode, KeptDecisions,
-    KeptPriorities, Levels, Machine, PlainLevels, Reread, Search, Stop, Table,
+    BitLevels, BoardDecodeTable, Decider, DecodeEachTime, EagerSysTick, Exceptions, KeptCode,
+    KeptDecisions, KeptPriorities, LazySysTick, Machine, PlainExceptions, Search, Stop,
+    SysTickState, Table,
 };
 use std::alloc::Global;
 use std::test::*;
@@ -34,7 +35,7 @@ word E000ED94 5";
 
 /// Returns whether a line of a row is followed: a place is taken, and `scripted` reads events and
 /// the board.
-fn follows<D: Decider, C: KeptCode, L: Levels, U: DueTicks>(
+fn follows<D: Decider, C: KeptCode, L: Exceptions, U: SysTickState>(
     machine: &mut Machine<D, C, L, U>,
     line: &str,
 ) -> Option<bool> {
@@ -46,7 +47,7 @@ fn follows<D: Decider, C: KeptCode, L: Levels, U: DueTicks>(
 }
 
 /// Returns whether all lines of a row are followed.
-fn follows_all<D: Decider, C: KeptCode, L: Levels, U: DueTicks>(
+fn follows_all<D: Decider, C: KeptCode, L: Exceptions, U: SysTickState>(
     machine: &mut Machine<D, C, L, U>,
     lines: &str,
 ) -> Option<bool> {
@@ -59,7 +60,7 @@ fn follows_all<D: Decider, C: KeptCode, L: Levels, U: DueTicks>(
 }
 
 /// Exception number, CFSR, HFSR, MMFAR and BFAR in the handler after the lines of a row.
-fn reported<D: Decider, C: KeptCode, L: Levels, U: DueTicks>(
+fn reported<D: Decider, C: KeptCode, L: Exceptions, U: SysTickState>(
     alloc: Global,
     row: &str,
 ) -> Option<[u32; 5]> {
@@ -91,12 +92,13 @@ impl Rows for Faults {
         let (row, wanted) = row.split_once("\nis ")?;
         let wanted = numbers::<5>(wanted)?;
         Some(
-            reported::<Search, Reread, PlainLevels, Counting>(self.alloc, row)? == wanted
+            reported::<Search, DecodeEachTime, PlainExceptions, EagerSysTick>(self.alloc, row)?
+                == wanted
                 && reported::<
                     KeptDecisions<Table>,
                     BoardDecodeTable,
                     KeptPriorities<BitLevels>,
-                    Ahead,
+                    LazySysTick,
                 >(self.alloc, row)?
                     == wanted,
         )

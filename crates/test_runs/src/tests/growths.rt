@@ -9,9 +9,9 @@ use command::{FileError, program, read_file, words};
 use command_line::{Subcommand, WordsError, subcommand_of};
 use elf::{Image, load};
 use machine::{
-    Ahead, BitLevels, Board, BoardDecodeTable, Counting, Decider, DueTicks, KeptCode,
-    KeptDecisions, KeptPriorities, Levels, Machine, PlainLevels, RegionCount, Reread,
-    ScriptedEvent, Search, Signal, StartError, Table,
+    BitLevels, Board, BoardDecodeTable, Decider, DecodeEachTime, EagerSysTick, Exceptions,
+    KeptCode, KeptDecisions, KeptPriorities, LazySysTick, Machine, PlainExceptions, RegionCount,
+    ScriptedEvent, Search, Signal, StartError, SysTickState, Table,
 };
 use std::alloc::{AllocError, Global};
 use std::env::FillError;
@@ -114,7 +114,7 @@ stop steps
 ";
 
 /// How a machine starts. It is whole where it writes the trace.
-fn start<D: Decider, C: KeptCode, L: Levels, U: DueTicks>(
+fn start<D: Decider, C: KeptCode, L: Exceptions, U: SysTickState>(
     alloc: Global,
     image: &Image<'_>,
     board: &Board,
@@ -146,14 +146,22 @@ fn ready_board(alloc: Global) -> Result<Board, Fail> {
 fn growths_of_a_slow_machine(rt: HostRuntime) -> Result<(), Fail> {
     let board = ready_board(rt.alloc())?;
     let image = load(&FIRST).ok().ok_or("an image")?;
-    let first = start::<Search, Reread, PlainLevels, Counting>(rt.alloc(), &image, &board);
-    let second = start::<Search, Reread, PlainLevels, Counting>(rt.alloc(), &image, &board);
+    let first = start::<Search, DecodeEachTime, PlainExceptions, EagerSysTick>(
+        rt.alloc(),
+        &image,
+        &board,
+    );
+    let second = start::<Search, DecodeEachTime, PlainExceptions, EagerSysTick>(
+        rt.alloc(),
+        &image,
+        &board,
+    );
     judge(&rt, "Slow::new", first, second)
 }
 
 /// How a machine of the types of `Fast` starts.
 fn start_fast(alloc: Global, image: &Image<'_>, board: &Board) -> Answer {
-    start::<KeptDecisions<Table>, BoardDecodeTable, KeptPriorities<BitLevels>, Ahead>(
+    start::<KeptDecisions<Table>, BoardDecodeTable, KeptPriorities<BitLevels>, LazySysTick>(
         alloc, image, board,
     )
 }
@@ -168,7 +176,7 @@ fn growths_of_a_fast_machine(rt: HostRuntime) -> Result<(), Fail> {
 }
 
 /// Returns whether a machine refuses a segment that is outside of memory.
-fn is_outside<D: Decider, C: KeptCode, L: Levels, U: DueTicks>(
+fn is_outside<D: Decider, C: KeptCode, L: Exceptions, U: SysTickState>(
     alloc: Global,
     image: &Image<'_>,
     board: &Board,
@@ -187,12 +195,16 @@ fn growths_come_after_the_segments(rt: HostRuntime) -> Result<(), Fail> {
     // p_paddr 00300000
     bytes[0x42] = 0x30;
     let image = load(&bytes).ok().ok_or("an image")?;
-    let slow = is_outside::<Search, Reread, PlainLevels, Counting>(rt.alloc(), &image, &board);
+    let slow = is_outside::<Search, DecodeEachTime, PlainExceptions, EagerSysTick>(
+        rt.alloc(),
+        &image,
+        &board,
+    );
     let fast = is_outside::<
         KeptDecisions<Table>,
         BoardDecodeTable,
         KeptPriorities<BitLevels>,
-        Ahead,
+        LazySysTick,
     >(rt.alloc(), &image, &board);
     if slow && fast {
         Ok(())

@@ -6,12 +6,12 @@ use board::read_board;
 use devices::{Device, Poke};
 use elf::load;
 use machine::{
-    Board, Decider, DueTicks, InterruptNumber, KeptCode, Layout, Levels, Machine, Place,
-    PlaceError, RegionCount, SMALL_BOARD, ScriptedEvent, Signal,
+    Board, Decider, Exceptions, InterruptNumber, KeptCode, Layout, Machine, Place, PlaceError,
+    RegionCount, SMALL_BOARD, ScriptedEvent, Signal, SysTickState,
 };
 use platform::board::SecondRam;
-use platform::exception::MOST_INTERRUPTS;
-use platform::mpu::MOST_REGIONS;
+use platform::exception::MAX_INTERRUPTS;
+use platform::mpu::MAX_REGIONS;
 use std::alloc::{AllocError, Global};
 use std::str;
 use test_tables::{byte_at, number_at, word};
@@ -27,7 +27,7 @@ pub(super) static NO_SEGMENTS: [u8; 52] = *b"\
 /// The interrupt line that an event is on, if there can be one of its number.
 fn interrupt_number(line: &str) -> Option<InterruptNumber> {
     let number = byte_at(line, 3)?;
-    if number < MOST_INTERRUPTS {
+    if number < MAX_INTERRUPTS {
         Some(InterruptNumber::new(number))
     } else {
         None
@@ -87,10 +87,10 @@ fn script(alloc: Global, text: &str) -> Result<Vec<ScriptedEvent>, AllocError> {
 /// The small board with the numbers of a line `board INTERRUPTS REGIONS`, if there can be such a board.
 fn board_of(line: &str) -> Option<Layout> {
     let interrupts = byte_at(line, 1)?;
-    if interrupts > MOST_INTERRUPTS {
+    if interrupts > MAX_INTERRUPTS {
         return None;
     }
-    let regions = if byte_at(line, 2)? == MOST_REGIONS {
+    let regions = if byte_at(line, 2)? == MAX_REGIONS {
         RegionCount::Sixteen
     } else {
         RegionCount::Eight
@@ -170,7 +170,7 @@ pub(super) fn small_board(alloc: Global, text: &str) -> Option<Board> {
 }
 
 /// Places an address at each entry of the vector table from that of NMI to that of line 7.
-pub(super) fn place_vectors<D: Decider, C: KeptCode, L: Levels, U: DueTicks>(
+pub(super) fn place_vectors<D: Decider, C: KeptCode, L: Exceptions, U: SysTickState>(
     machine: &mut Machine<D, C, L, U>,
     address: u32,
 ) -> Result<(), PlaceError> {
@@ -181,7 +181,7 @@ pub(super) fn place_vectors<D: Decider, C: KeptCode, L: Levels, U: DueTicks>(
 }
 
 /// A machine of the small board with the events of these lines.
-pub(super) fn scripted<D: Decider, C: KeptCode, L: Levels, U: DueTicks>(
+pub(super) fn scripted<D: Decider, C: KeptCode, L: Exceptions, U: SysTickState>(
     alloc: Global,
     text: &str,
 ) -> Option<Machine<D, C, L, U>> {
@@ -191,7 +191,7 @@ pub(super) fn scripted<D: Decider, C: KeptCode, L: Levels, U: DueTicks>(
 }
 
 /// A machine of the small board with the values of these lines in their places.
-pub(super) fn machine_with<D: Decider, C: KeptCode, L: Levels, U: DueTicks>(
+pub(super) fn machine_with<D: Decider, C: KeptCode, L: Exceptions, U: SysTickState>(
     alloc: Global,
     text: &str,
 ) -> Option<Machine<D, C, L, U>> {

@@ -8,9 +8,9 @@ use super::files::Ends;
 use super::machines::small_board;
 use elf::load;
 use machine::{
-    Ahead, BitLevels, BoardDecodeTable, Counting, Decider, DueTicks, Events, KeptCode,
-    KeptDecisions, KeptPriorities, Levels, Machine, Place, PlaceError, PlainLevels, Reread, Search,
-    Table, stop_line,
+    BitLevels, BoardDecodeTable, Decider, DecodeEachTime, EagerSysTick, Events, Exceptions,
+    KeptCode, KeptDecisions, KeptPriorities, LazySysTick, Machine, Place, PlaceError,
+    PlainExceptions, Search, SysTickState, Table, stop_line,
 };
 use std::alloc::Global;
 use std::test::*;
@@ -27,19 +27,19 @@ impl Rows for Stops<'_> {
         let alloc = self.rt.alloc();
         Some(
             Ends { rt: self.rt }.holds(text)?
-                && does_stop::<Search, Reread, PlainLevels, Counting>(alloc, text)?
+                && does_stop::<Search, DecodeEachTime, PlainExceptions, EagerSysTick>(alloc, text)?
                 && does_stop::<
                     KeptDecisions<Table>,
                     BoardDecodeTable,
                     KeptPriorities<BitLevels>,
-                    Ahead,
+                    LazySysTick,
                 >(alloc, text)?,
         )
     }
 }
 
 /// Returns whether a machine with the image of a row writes its lines, and stays at the stop of the last one.
-fn does_stop<D: Decider, C: KeptCode, L: Levels, U: DueTicks>(
+fn does_stop<D: Decider, C: KeptCode, L: Exceptions, U: SysTickState>(
     alloc: Global,
     text: &str,
 ) -> Option<bool> {
@@ -67,7 +67,7 @@ fn does_stop<D: Decider, C: KeptCode, L: Levels, U: DueTicks>(
 }
 
 /// Returns whether a machine repeats the stop of this line, and takes no place.
-fn stays<D: Decider, C: KeptCode, L: Levels, U: DueTicks>(
+fn stays<D: Decider, C: KeptCode, L: Exceptions, U: SysTickState>(
     machine: &mut Machine<D, C, L, U>,
     line: &[u8],
 ) -> Option<bool> {
@@ -85,7 +85,7 @@ fn stays<D: Decider, C: KeptCode, L: Levels, U: DueTicks>(
 }
 
 /// Returns whether each kind of place is refused, since the machine has stopped.
-fn is_closed<D: Decider, C: KeptCode, L: Levels, U: DueTicks>(
+fn is_closed<D: Decider, C: KeptCode, L: Exceptions, U: SysTickState>(
     machine: &mut Machine<D, C, L, U>,
 ) -> bool {
     let mut closed = true;

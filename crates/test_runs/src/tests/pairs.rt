@@ -4,8 +4,9 @@
 use super::cut::push_line;
 use super::run::Run;
 use machine::{
-    Ahead, BitLevels, BoardDecodeTable, Counting, Decider, DueTicks, KeptCode, KeptDecisions,
-    KeptPriorities, Levels, Machine, Place, PlainLevels, RegValues, Reread, Search, Table,
+    BitLevels, BoardDecodeTable, Decider, DecodeEachTime, EagerSysTick, Exceptions, KeptCode,
+    KeptDecisions, KeptPriorities, LazySysTick, Machine, Place, PlainExceptions, RegValues, Search,
+    SysTickState, Table,
 };
 use std::alloc::Global;
 use test_tables::{Rows, numbers};
@@ -26,7 +27,7 @@ fn others(values: &RegValues) -> [u32; 9] {
 }
 
 /// Returns whether two machines have the same registers and regions.
-fn registers_agree<D: Decider, C: KeptCode, L: Levels, U: DueTicks>(
+fn registers_agree<D: Decider, C: KeptCode, L: Exceptions, U: SysTickState>(
     one: &Machine<D, C, L, U>,
     two: &Machine<D, C, L, U>,
 ) -> bool {
@@ -40,7 +41,7 @@ fn registers_agree<D: Decider, C: KeptCode, L: Levels, U: DueTicks>(
 }
 
 /// Returns whether two machines have the same bytes in a range of addresses, but for the word at `hidden`.
-fn bytes_agree<D: Decider, C: KeptCode, L: Levels, U: DueTicks>(
+fn bytes_agree<D: Decider, C: KeptCode, L: Exceptions, U: SysTickState>(
     one: &Machine<D, C, L, U>,
     two: &Machine<D, C, L, U>,
     hidden: Option<u32>,
@@ -56,7 +57,7 @@ fn bytes_agree<D: Decider, C: KeptCode, L: Levels, U: DueTicks>(
 }
 
 /// Returns whether two machines of the small board agree, but for the word at `hidden`.
-pub(super) fn agree<D: Decider, C: KeptCode, L: Levels, U: DueTicks>(
+pub(super) fn agree<D: Decider, C: KeptCode, L: Exceptions, U: SysTickState>(
     one: &Machine<D, C, L, U>,
     two: &Machine<D, C, L, U>,
     hidden: Option<u32>,
@@ -67,7 +68,7 @@ pub(super) fn agree<D: Decider, C: KeptCode, L: Levels, U: DueTicks>(
 }
 
 /// Returns whether a machine has a word at an address.
-fn has_word<D: Decider, C: KeptCode, L: Levels, U: DueTicks>(
+fn has_word<D: Decider, C: KeptCode, L: Exceptions, U: SysTickState>(
     machine: &Machine<D, C, L, U>,
     address: u32,
     value: u32,
@@ -81,7 +82,7 @@ fn has_word<D: Decider, C: KeptCode, L: Levels, U: DueTicks>(
 
 /// Runs of two machines, which may differ in the word at an address.
 #[derive(Drop)]
-struct Pair<D: Decider, C: KeptCode, L: Levels, U: DueTicks> {
+struct Pair<D: Decider, C: KeptCode, L: Exceptions, U: SysTickState> {
     one: Run<D, C, L, U>,
     two: Run<D, C, L, U>,
     /// The address of the word, where they differ.
@@ -93,7 +94,7 @@ struct Pair<D: Decider, C: KeptCode, L: Levels, U: DueTicks> {
     skips: bool,
 }
 
-impl<D: Decider, C: KeptCode, L: Levels, U: DueTicks> Pair<D, C, L, U> {
+impl<D: Decider, C: KeptCode, L: Exceptions, U: SysTickState> Pair<D, C, L, U> {
     /// Returns whether both machines follow a line, as `run` says. Besides, `hidden` and `visible` have an
     /// address, the word that is placed there in the first machine, and that in the second; and `first` and
     /// `second` a line that the first or the second machine alone writes.
@@ -147,7 +148,7 @@ impl<D: Decider, C: KeptCode, L: Levels, U: DueTicks> Pair<D, C, L, U> {
 }
 
 /// Returns whether two machines go as a text says.
-fn pair_goes<D: Decider, C: KeptCode, L: Levels, U: DueTicks>(
+fn pair_goes<D: Decider, C: KeptCode, L: Exceptions, U: SysTickState>(
     alloc: Global,
     text: &str,
     skips: bool,
@@ -180,12 +181,12 @@ impl Rows for Pairs {
     fn holds(&mut self, text: &str) -> Option<bool> {
         let (alloc, skips) = (self.alloc, self.skips);
         Some(
-            pair_goes::<Search, Reread, PlainLevels, Counting>(alloc, text, skips)?
+            pair_goes::<Search, DecodeEachTime, PlainExceptions, EagerSysTick>(alloc, text, skips)?
                 && pair_goes::<
                     KeptDecisions<Table>,
                     BoardDecodeTable,
                     KeptPriorities<BitLevels>,
-                    Ahead,
+                    LazySysTick,
                 >(alloc, text, skips)?,
         )
     }

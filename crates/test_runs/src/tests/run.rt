@@ -25,18 +25,18 @@ use super::cut::{Cut, Text, push_line, run, run_selected, run_task};
 use super::machines::{event, place, place_vectors, scripted};
 use instruction_set::unpredictable::UnpredictableCase;
 use machine::{
-    Ahead, BitLevels, BoardDecodeTable, Counting, Decider, DueTicks, KeptCode, KeptDecisions,
-    KeptPriorities, Levels, Machine, PlaceError, PlainLevels, RegValues, Reread, Search, Stop,
-    Table, TaskEnd, TraceSelection,
+    BitLevels, BoardDecodeTable, Decider, DecodeEachTime, EagerSysTick, Exceptions, KeptCode,
+    KeptDecisions, KeptPriorities, LazySysTick, Machine, PlaceError, PlainExceptions, RegValues,
+    Search, Stop, SysTickState, Table, TaskEnd, TraceSelection,
 };
-use platform::stop::LeftOut;
+use platform::stop::Unsupported;
 use std::alloc::Global;
 use std::test::Fail;
 use test_tables::{Rows, byte_at, check_between, number, number_at, word};
 
 /// A run as far as its lines were followed.
 #[derive(Drop)]
-pub(super) struct Run<D: Decider, C: KeptCode, L: Levels, U: DueTicks> {
+pub(super) struct Run<D: Decider, C: KeptCode, L: Exceptions, U: SysTickState> {
     pub(super) machine: Machine<D, C, L, U>,
     /// What its steps wrote.
     pub(super) out: Cut,
@@ -53,16 +53,19 @@ struct Runs {
 impl Rows for Runs {
     fn holds(&mut self, text: &str) -> Option<bool> {
         Some(
-            goes::<Search, Reread, PlainLevels, Counting>(self.alloc, text)?
-                && goes::<KeptDecisions<Table>, BoardDecodeTable, KeptPriorities<BitLevels>, Ahead>(
-                    self.alloc, text,
-                )?,
+            goes::<Search, DecodeEachTime, PlainExceptions, EagerSysTick>(self.alloc, text)?
+                && goes::<
+                    KeptDecisions<Table>,
+                    BoardDecodeTable,
+                    KeptPriorities<BitLevels>,
+                    LazySysTick,
+                >(self.alloc, text)?,
         )
     }
 }
 
 /// Returns whether a machine goes as a text says.
-fn goes<D: Decider, C: KeptCode, L: Levels, U: DueTicks>(
+fn goes<D: Decider, C: KeptCode, L: Exceptions, U: SysTickState>(
     alloc: Global,
     text: &str,
 ) -> Option<bool> {
@@ -83,7 +86,7 @@ pub(super) fn check_runs(alloc: Global, table: &str) -> Result<(), Fail> {
     check_between(table, "\n\n", &mut Runs { alloc })
 }
 
-impl<D: Decider, C: KeptCode, L: Levels, U: DueTicks> Run<D, C, L, U> {
+impl<D: Decider, C: KeptCode, L: Exceptions, U: SysTickState> Run<D, C, L, U> {
     /// A run of a machine of the small board with the events of these lines.
     pub(super) fn of(alloc: Global, text: &str) -> Option<Self> {
         Some(Run {
@@ -160,7 +163,7 @@ fn name_of(error: PlaceError) -> &'static str {
         PlaceError::NotAligned => "not-aligned",
         PlaceError::NoSuchPlace => "no-such-place",
         PlaceError::Stopped => "stopped",
-        PlaceError::Refused(Stop::OutOfProfile(LeftOut::SleepOnExit)) => "sleeponexit",
+        PlaceError::Refused(Stop::OutOfProfile(Unsupported::SleepOnExit)) => "sleeponexit",
         PlaceError::Refused(Stop::Unpredictable(UnpredictableCase::MpuControl)) => "mpu-control",
         PlaceError::Refused(Stop::Unpredictable(UnpredictableCase::MpuRegion)) => "mpu-region",
         PlaceError::Refused(_) => "another",
@@ -168,7 +171,7 @@ fn name_of(error: PlaceError) -> &'static str {
 }
 
 /// Returns whether a machine holds what a line says after its first word.
-fn holds<D: Decider, C: KeptCode, L: Levels, U: DueTicks>(
+fn holds<D: Decider, C: KeptCode, L: Exceptions, U: SysTickState>(
     machine: &Machine<D, C, L, U>,
     seen: &str,
 ) -> Option<bool> {
@@ -198,7 +201,7 @@ fn register(values: &RegValues, name: &str) -> Option<u32> {
 }
 
 /// Returns whether a byte is where `byte ADDRESS VALUE` says.
-pub(super) fn holds_byte<D: Decider, C: KeptCode, L: Levels, U: DueTicks>(
+pub(super) fn holds_byte<D: Decider, C: KeptCode, L: Exceptions, U: SysTickState>(
     machine: &Machine<D, C, L, U>,
     seen: &str,
 ) -> Option<bool> {
@@ -207,7 +210,7 @@ pub(super) fn holds_byte<D: Decider, C: KeptCode, L: Levels, U: DueTicks>(
 }
 
 /// Returns whether a debugger shows what `shown ADDRESS VALUE` says.
-fn holds_shown<D: Decider, C: KeptCode, L: Levels, U: DueTicks>(
+fn holds_shown<D: Decider, C: KeptCode, L: Exceptions, U: SysTickState>(
     machine: &Machine<D, C, L, U>,
     seen: &str,
 ) -> Option<bool> {
@@ -218,7 +221,7 @@ fn holds_shown<D: Decider, C: KeptCode, L: Levels, U: DueTicks>(
 }
 
 /// The word that a debugger shows at an address, if memory or a device has all of it.
-fn shown<D: Decider, C: KeptCode, L: Levels, U: DueTicks>(
+fn shown<D: Decider, C: KeptCode, L: Exceptions, U: SysTickState>(
     machine: &Machine<D, C, L, U>,
     address: u32,
 ) -> Option<u32> {
@@ -231,7 +234,7 @@ fn shown<D: Decider, C: KeptCode, L: Levels, U: DueTicks>(
 }
 
 /// Returns whether a region holds what `region NUMBER RBAR RASR` says.
-fn holds_region<D: Decider, C: KeptCode, L: Levels, U: DueTicks>(
+fn holds_region<D: Decider, C: KeptCode, L: Exceptions, U: SysTickState>(
     machine: &Machine<D, C, L, U>,
     seen: &str,
 ) -> Option<bool> {

@@ -11,8 +11,9 @@ use super::cut::{Cut, Text, push_line};
 use super::machines::{place, scripted, small_board};
 use debugger::{Slots, session};
 use machine::{
-    Ahead, BitLevels, BoardDecodeTable, Counting, Decider, DueTicks, KeptCode, KeptDecisions,
-    KeptPriorities, Layout, Levels, Machine, Over, PlainLevels, Reread, Search, Table,
+    BitLevels, BoardDecodeTable, Decider, DecodeEachTime, EagerSysTick, Exceptions, KeptCode,
+    KeptDecisions, KeptPriorities, Layout, LazySysTick, Machine, Over, PlainExceptions, Search,
+    SysTickState, Table,
 };
 use std::alloc::Global;
 use std::marker::Brand;
@@ -480,12 +481,12 @@ pub(super) struct Held {
 impl Rows for Held {
     fn holds(&mut self, text: &str) -> Option<bool> {
         Some(
-            answers::<Search, Reread, PlainLevels, Counting>(self.alloc, text)?
+            answers::<Search, DecodeEachTime, PlainExceptions, EagerSysTick>(self.alloc, text)?
                 && answers::<
                     KeptDecisions<Table>,
                     BoardDecodeTable,
                     KeptPriorities<BitLevels>,
-                    Ahead,
+                    LazySysTick,
                 >(self.alloc, text)?,
         )
     }
@@ -513,7 +514,7 @@ fn slots_of(text: &str) -> u8 {
 }
 
 /// Returns whether the session of a text has its answers.
-fn answers<D: Decider, C: KeptCode, L: Levels, U: DueTicks>(
+fn answers<D: Decider, C: KeptCode, L: Exceptions, U: SysTickState>(
     alloc: Global,
     text: &str,
 ) -> Option<bool> {
@@ -534,7 +535,7 @@ fn answers<D: Decider, C: KeptCode, L: Levels, U: DueTicks>(
 }
 
 /// Holds a session, and returns what its writer took.
-fn hold<D: Decider, C: KeptCode, L: Levels, U: DueTicks>(
+fn hold<D: Decider, C: KeptCode, L: Exceptions, U: SysTickState>(
     machine: &mut Machine<D, C, L, U>,
     layout: Layout,
     slots: Slots<L, U>,
@@ -552,7 +553,7 @@ fn hold<D: Decider, C: KeptCode, L: Levels, U: DueTicks>(
     )
 }
 
-fn hold_over<D: Decider, C: KeptCode, L: Levels, U: DueTicks, J: Ledger, K: Ledger>(
+fn hold_over<D: Decider, C: KeptCode, L: Exceptions, U: SysTickState, J: Ledger, K: Ledger>(
     machine: &mut Machine<D, C, L, U>,
     layout: Layout,
     slots: Slots<L, U>,

@@ -3,8 +3,9 @@
 use super::cut::run_selected;
 use super::run::Run;
 use machine::{
-    Ahead, BitLevels, BoardDecodeTable, Counting, Decider, DueTicks, KeptCode, KeptDecisions,
-    KeptPriorities, Levels, PlainLevels, Reread, Search, Table, TraceSelection,
+    BitLevels, BoardDecodeTable, Decider, DecodeEachTime, EagerSysTick, Exceptions, KeptCode,
+    KeptDecisions, KeptPriorities, LazySysTick, PlainExceptions, Search, SysTickState, Table,
+    TraceSelection,
 };
 use std::alloc::Global;
 use std::test::*;
@@ -112,7 +113,7 @@ stop steps
 ];
 
 /// Returns whether a run with a selection writes this text, and the machine is as after each other one.
-fn writes<D: Decider, C: KeptCode, L: Levels, U: DueTicks>(
+fn writes<D: Decider, C: KeptCode, L: Exceptions, U: SysTickState>(
     alloc: Global,
     row: &Row,
 ) -> Option<bool> {
@@ -129,7 +130,7 @@ fn writes<D: Decider, C: KeptCode, L: Levels, U: DueTicks>(
 }
 
 /// Returns whether a machine holds what it has to after the steps.
-fn is_after<D: Decider, C: KeptCode, L: Levels, U: DueTicks>(
+fn is_after<D: Decider, C: KeptCode, L: Exceptions, U: SysTickState>(
     run: &mut Run<D, C, L, U>,
 ) -> Option<bool> {
     for line in AFTER.iter() {
@@ -143,13 +144,13 @@ fn is_after<D: Decider, C: KeptCode, L: Levels, U: DueTicks>(
 #[test]
 fn each_selection_writes_its_events(rt: HostRuntime) {
     for row in ROWS.iter() {
-        let slow = writes::<Search, Reread, PlainLevels, Counting>(rt.alloc(), row);
+        let slow = writes::<Search, DecodeEachTime, PlainExceptions, EagerSysTick>(rt.alloc(), row);
         assert!(rt; slow == Some(true), "slow, beside {}", row.text);
         let fast = writes::<
             KeptDecisions<Table>,
             BoardDecodeTable,
             KeptPriorities<BitLevels>,
-            Ahead,
+            LazySysTick,
         >(rt.alloc(), row);
         assert!(rt; fast == Some(true), "fast, beside {}", row.text);
     }

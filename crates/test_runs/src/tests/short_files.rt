@@ -7,7 +7,7 @@ use std::io::{Read, Seek, SeekFrom, Write};
 use std::rt::Files;
 
 /// The most bytes that a file takes in a write.
-const MOST_WRITTEN: usize = 7;
+const MAX_WRITTEN: usize = 7;
 
 /// The files of the system, each of which takes at most 7 bytes a write.
 #[derive(Clone, Copy)]
@@ -29,7 +29,7 @@ impl Read for ShortFile {
 
 impl Write for ShortFile {
     fn write(&mut self, buf: &[u8]) -> io::Result<usize> {
-        let taken = buf.len().min(MOST_WRITTEN);
+        let taken = buf.len().min(MAX_WRITTEN);
         self.file.write(&buf[..taken])
     }
 

@@ -7,7 +7,7 @@ use super::files::{Ended, Ends, NO_INPUT, SMALL};
 use access_map::{Worlds, world_line};
 use board::read_board;
 use elf::load;
-use machine::{Decider, DueTicks, Fast, KeptCode, Levels, Machine, Slow};
+use machine::{Decider, Exceptions, Fast, KeptCode, Machine, Slow, SysTickState};
 use std::alloc::Global;
 use std::test::*;
 use test_tables::check_between;
@@ -157,7 +157,7 @@ fn sharing() -> Option<Text> {
 }
 
 /// Returns the lines of the worlds of a run of 20 steps.
-fn lines_of<D: Decider, C: KeptCode, L: Levels, U: DueTicks>(
+fn lines_of<D: Decider, C: KeptCode, L: Exceptions, U: SysTickState>(
     alloc: Global,
     machine: &mut Machine<D, C, L, U>,
 ) -> Option<Text> {

@@ -4,7 +4,7 @@ ghost use Rattle.std.specs.Prelude.{◌≡◌};
 
 use super::cut::Cut;
 use super::machines::machine_with;
-use machine::{Decider, DueTicks, KeptCode, Levels, Machine, Over, Paged, Slow};
+use machine::{Decider, Exceptions, KeptCode, Machine, Over, Paged, Slow, SysTickState};
 use std::alloc::{AllocError, Global};
 use std::io::Write;
 use std::marker::Brand;
@@ -28,15 +28,17 @@ fn got(out: &Cut, bytes: usize) -> bool {
 }
 
 /// A run whose lines are gathered: whether it ends, and whether the lines go out then.
-pub(super) fn run_gathered<D: Decider, C: KeptCode, L: Levels, U: DueTicks, W: Write + Drop>(
-    machine: &mut Machine<D, C, L, U>,
-    steps: u64,
-    out: W,
-) -> (bool, bool, W) {
+pub(super) fn run_gathered<
+    D: Decider,
+    C: KeptCode,
+    L: Exceptions,
+    U: SysTickState,
+    W: Write + Drop,
+>(machine: &mut Machine<D, C, L, U>, steps: u64, out: W) -> (bool, bool, W) {
     run_paged::<D, C, L, U, W, Brand>(machine, steps, out, Blank::new(1))
 }
 
-fn run_paged<D: Decider, C: KeptCode, L: Levels, U: DueTicks, W: Write + Drop, K: Ledger>(
+fn run_paged<D: Decider, C: KeptCode, L: Exceptions, U: SysTickState, W: Write + Drop, K: Ledger>(
     machine: &mut Machine<D, C, L, U>,
     steps: u64,
     out: W,

@@ -1,6 +1,6 @@
 //! Counters and cells after one step.
 
-use super::words::{kind, moment, outcome, privileged, rule, take_step, touch};
+use super::words::{kind, outcome, privileged, rule, start, take_step, touch};
 use platform::board::SMALL_BOARD;
 use std::alloc::Global;
 use std::test::*;
@@ -16,7 +16,7 @@ struct Counters {
 impl Rows for Counters {
     fn holds(&mut self, row: &str) -> Option<bool> {
         let mut survey = Survey::new(self.alloc, &SMALL_BOARD).ok()?;
-        take_step(&mut survey, &moment('p', 0, 0x100), part(row, 0))?;
+        take_step(&mut survey, &start('p', 0, 0x100), part(row, 0))?;
         let counter = part(row, 1);
         let number = survey.counts.number(
             rule(word(counter, 3))?,
@@ -58,7 +58,7 @@ struct Touched {
 impl Rows for Touched {
     fn holds(&mut self, row: &str) -> Option<bool> {
         let mut survey = Survey::new(self.alloc, &SMALL_BOARD).ok()?;
-        take_step(&mut survey, &moment('p', 0, 0x100), part(row, 0))?;
+        take_step(&mut survey, &start('p', 0, 0x100), part(row, 0))?;
         let cell = number_at(part(row, 1), 3)? as usize;
         if cell >= 1024 {
             return None;
@@ -107,8 +107,8 @@ struct Instructions {
 impl Rows for Instructions {
     fn holds(&mut self, row: &str) -> Option<bool> {
         let mut survey = Survey::new(self.alloc, &SMALL_BOARD).ok()?;
-        let moment = moment('p', 0, number_at(part(row, 0), 0)?);
-        take_step(&mut survey, &moment, part(row, 1))?;
+        let start = start('p', 0, number_at(part(row, 0), 0)?);
+        take_step(&mut survey, &start, part(row, 1))?;
         let by = privileged(word(part(row, 2), 1))?;
         let address = number_at(part(row, 2), 2)?;
         let number = match word(part(row, 2), 0) {

@@ -1,23 +1,23 @@
 //! The rows of settings and of faults.
 
-use super::words::{moment, take_step};
+use super::words::{start, take_step};
 use mpu::MpuRegister;
 use platform::access::Kind;
 use platform::board::SMALL_BOARD;
 use std::alloc::Global;
 use std::test::*;
-use survey::{Moment, Survey};
+use survey::{StepStart, Survey};
 use test_tables::{Rows, check, long_at, number_at, part, word};
 
 /// A moment at which region 0, which RNR selects after a reset, has this address; None where RBAR doesn't take it.
-fn region_at(base: u32) -> Option<Moment> {
-    let mut moment = moment('u', 0, 0x100);
-    moment.mpu.write_reg(MpuRegister::Base, base).ok()?;
-    moment
+fn region_at(base: u32) -> Option<StepStart> {
+    let mut start = start('u', 0, 0x100);
+    start.mpu.write_reg(MpuRegister::Base, base).ok()?;
+    start
         .mpu
         .write_reg(MpuRegister::Attributes, 0x0300_0009)
         .ok()?;
-    Some(moment)
+    Some(start)
 }
 
 /// Surveys of steps whose settings differ, and of steps with the first setting after them.
@@ -30,8 +30,8 @@ impl Rows for Settings {
     fn holds(&mut self, row: &str) -> Option<bool> {
         let mut survey = Survey::new(self.alloc, &SMALL_BOARD).ok()?;
         'settings: for setting in 0..number_at(part(row, 0), 0)? {
-            let moment = region_at(setting.wrapping_mul(32))?;
-            take_step(&mut survey, &moment, "L 20000000 4 u ok r0")?;
+            let start = region_at(setting.wrapping_mul(32))?;
+            take_step(&mut survey, &start, "L 20000000 4 u ok r0")?;
         }
         take_step(&mut survey, &region_at(0)?, part(row, 1))?;
         let (mut first, rows) = (0, survey.settings.rows());
@@ -75,11 +75,11 @@ impl Rows for Faults {
         'faults: for step in 0..number_at(part(row, 0), 0)? {
             take_step(
                 &mut survey,
-                &moment('u', 0, step),
+                &start('u', 0, step),
                 "L 20000000 4 u mpu none, ! 4 82 0",
             )?;
         }
-        take_step(&mut survey, &moment('u', 0, 0), part(row, 1))?;
+        take_step(&mut survey, &start('u', 0, 0), part(row, 1))?;
         let (mut times, rows) = (0, survey.faults.rows());
         let mut is_refused = false;
         if let Some(fault) = rows.last() {

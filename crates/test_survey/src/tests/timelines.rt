@@ -1,6 +1,6 @@
 //! Columns of ticks, and lanes of handlers.
 
-use super::words::{moment, take_step};
+use super::words::{start, take_step};
 use platform::board::SMALL_BOARD;
 use std::alloc::Global;
 use std::test::*;
@@ -28,7 +28,7 @@ impl Rows for Columns {
     fn holds(&mut self, row: &str) -> Option<bool> {
         let mut survey = Survey::new(self.alloc, &SMALL_BOARD).ok()?;
         'ticks: for _ in 0..number_at(part(row, 0), 0)? {
-            survey.begin_step(&moment('u', 0, 0));
+            survey.begin_step(&start('u', 0, 0));
         }
         let timeline = &survey.timeline;
         let is_wide = timeline.column_ticks() == long_at(part(row, 1), 0)?;
@@ -65,9 +65,9 @@ impl Rows for Marks {
     fn holds(&mut self, row: &str) -> Option<bool> {
         let mut survey = Survey::new(self.alloc, &SMALL_BOARD).ok()?;
         'steps: for mode in part(row, 0).chars() {
-            survey.begin_step(&moment(mode, 15, 0));
+            survey.begin_step(&start(mode, 15, 0));
         }
-        take_step(&mut survey, &moment('p', 0, 0), part(row, 1))?;
+        take_step(&mut survey, &start('p', 0, 0), part(row, 1))?;
         let column = number_at(part(row, 2), 0)? as usize;
         let mark = meaning(&MARKS, word(part(row, 2), 1))?;
         Some(survey.timeline.is_marked(column, mark) == (part(row, 3) == "yes"))
@@ -112,10 +112,10 @@ impl Rows for Lanes {
     fn holds(&mut self, row: &str) -> Option<bool> {
         let mut survey = Survey::new(self.alloc, &SMALL_BOARD).ok()?;
         'handlers: for handler in 0..byte_at(part(row, 0), 0)? {
-            survey.begin_step(&moment('h', 16 + handler as u16, 0));
+            survey.begin_step(&start('h', 16 + handler as u16, 0));
         }
         'ticks: for _ in 0..number_at(part(row, 1), 0)? {
-            survey.begin_step(&moment('u', 0, 0));
+            survey.begin_step(&start('u', 0, 0));
         }
         let timeline = &survey.timeline;
         let column = number_at(part(row, 3), 0)? as usize;

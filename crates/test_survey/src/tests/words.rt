@@ -4,7 +4,7 @@ use instruction_set::size::Size;
 use mpu::MpuRegs;
 use platform::access::{Access, Cause, DecidedAccess, Kind, Rule};
 use platform::event::{EventKind, RecordedFault};
-use survey::{Moment, Survey, Touch};
+use survey::{StepStart, Survey, Touch};
 use test_tables::{meaning, number_at, word};
 
 const KINDS: [(&str, Kind); 7] = [
@@ -99,8 +99,8 @@ fn event(text: &str) -> Option<EventKind> {
 }
 
 /// The moment of a step: `u` or `p` for code in Thread mode, `s` for a core that is asleep, or `h` for a handler.
-pub(super) fn moment(mode: char, exception: u16, pc: u32) -> Moment {
-    Moment {
+pub(super) fn start(mode: char, exception: u16, pc: u32) -> StepStart {
+    StepStart {
         pc,
         exception: if mode == 'h' { exception } else { 0 },
         privileged: mode != 'u',
@@ -110,12 +110,12 @@ pub(super) fn moment(mode: char, exception: u16, pc: u32) -> Moment {
 }
 
 /// Counts a step that begins at a moment, of events between commas.
-pub(super) fn take_step(survey: &mut Survey, moment: &Moment, events: &str) -> Option<()> {
-    survey.begin_step(moment);
+pub(super) fn take_step(survey: &mut Survey, start: &StepStart, events: &str) -> Option<()> {
+    survey.begin_step(start);
     'events: for text in events.split(',') {
         if !text.trim().is_empty() {
             let what = event(text.trim())?;
-            survey.take(moment, 1, &what);
+            survey.take(start, 1, &what);
         }
     }
     survey.end_step();

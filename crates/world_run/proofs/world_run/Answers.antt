@@ -1,6 +1,6 @@
 use Rattle.std.proofs.Common.{◌≡◌, ◌⊎◌, inl, inr, ◌∙◌, sym, ap, arith, IsSome}
 use Rattle.machine.proofs.Running.{ends_so}
-use Rattle.machine.specs.Whole.{Whole}
+use Rattle.machine.specs.MachineModel.{MachineModel}
 use Rattle.world_run.specs.Seen.{Counting}
 use Rattle.world_run.proofs.Counted.{all_counted, counted_on, machine_on, none_counted, none_made, whole_made}
 use Rattle.world_run.proofs.world_run.Goals as goal
@@ -18,7 +18,7 @@ steps-init g c = record {
 
 pub steps-preserved : goal.steps-preserved
 steps-preserved g c =
-    let now = ap (λ (m : Whole). m.state) c.steps.invariant.machine in
+    let now = ap (λ (m : MachineModel). m.state) c.steps.invariant.machine in
     record {
       few = omega arith;
       machine = machine_on _ _ _ _ c.steps.invariant.machine c.world_step.ensures.state;
@@ -36,7 +36,7 @@ pub returns-clause-worlds : goal.returns-clause-worlds
 returns-clause-worlds g c =
     let ends : (c.steps.made ≡ c.args.limit) ⊎ IsSome c.steps.machine.state.stop =
     elim c.steps-test.branch [ else-steps-test w ↦ inl (omega arith) | then-steps-test+then-is_some w ↦ inr cc ] in
-    let now = ap (λ (m : Whole). m.state) c.steps.invariant.machine in
+    let now = ap (λ (m : MachineModel). m.state) c.steps.invariant.machine in
     all_counted _ _ _ _ _ _ c.steps.invariant.few now c.steps.invariant.counted ends
 
 pub returns-clause-stop : goal.returns-clause-stop
@@ -44,4 +44,4 @@ returns-clause-stop g c =
     let ends : (c.steps.made ≡ c.args.limit) ⊎ IsSome c.steps.machine.state.stop =
     elim c.steps-test.branch [ else-steps-test w ↦ inl (omega arith) | then-steps-test+then-is_some w ↦ inr cc ] in
     let whole = whole_made _ _ _ _ c.steps.invariant.few c.steps.invariant.machine ends in
-    ends_so _ _ _ _ (cc) (ap (λ (m : Whole). m.state) whole)
+    ends_so _ _ _ _ (cc) (ap (λ (m : MachineModel). m.state) whole)

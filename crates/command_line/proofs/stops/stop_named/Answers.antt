@@ -10,5 +10,5 @@ returns-clause-none c =
       reset = c.in_default.ensures.not_reset refl;
       breakpoint = c.in_default-breakpoint_named.ensures.none refl;
       unpredictable = c.in_default-case_named.ensures.none refl;
-      left_out = c.case_named-2.ensures.none none;
+      unsupported = c.case_named-2.ensures.none none;
     })

@@ -1,12 +1,12 @@
 use Rattle.std.proofs.Common.{◌≡◌, ◌∙◌, ap, false, sym, arith, Option}
 use Rattle.debugger.proofs.Running.{run_cut, run_ends, run_more, run_over}
-use Rattle.serving.proofs.Telling.{tells_nothing}
+use Rattle.serving.proofs.Delivering.{delivers_nothing}
 use Rattle.debugger.specs.Answers.{ends_at, hit_before}
 use Rattle.debugger_commands.specs.declared.conditions.Hit.{Hit}
 use Rattle.debugger.proofs.runs.run_on.Goals as goal
 
 pub steps-init : goal.steps-init
-steps-init g c = tells_nothing _ _ _
+steps-init g c = delivers_nothing _ _ _
 
 -- the run ends where it is
 pub returns-then-ends_at : goal.returns-then-ends_at
@@ -20,7 +20,7 @@ returns-in-Err g c =
     ≡ false =
     ap (λ (x : Option Hit). ends_at x c.steps.machine.state) (sym c.hit_before-now.ensures)
     ∙ sym c.ends_at.ensures ∙ c.if-ends_at.false in
-    run_cut c.args.settings.now _ _ _ _ _ _ _ _ _ c.steps-test.true goes c.steps.invariant c.in-Err.ensures.tells
+    run_cut c.args.settings.now _ _ _ _ _ _ _ _ _ c.steps-test.true goes c.steps.invariant c.in-Err.ensures.delivers
 
 pub steps-preserved : goal.steps-preserved
 steps-preserved g c =
@@ -29,7 +29,7 @@ steps-preserved g c =
     ap (λ (x : Option Hit). ends_at x c.steps.machine.state) (sym c.hit_before-now.ensures)
     ∙ sym c.ends_at.ensures ∙ c.if-ends_at.false in
     run_more c.args.settings.now _ _ _ _ _ _ _ _ _ _ c.steps-test.true goes c.in-Ok.ensures.hit c.steps.invariant
-    c.in-Ok.ensures.tells
+    c.in-Ok.ensures.delivers
 
 -- no step is left
 pub returns : goal.returns

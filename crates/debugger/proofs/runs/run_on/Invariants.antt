@@ -1,11 +1,12 @@
-use Rattle.serving.proofs.Telling.{Told}
+use Rattle.serving.proofs.Delivering.{HasDelivered}
 use Rattle.debugger.specs.Answers.{run_on}
 use Rattle.debugger.proofs.runs.run_on.Given as goal
 
 -- the pieces so far went out, and those of the steps that are left are still to come
 abbrev pub invariant-steps : goal.invariant-steps
 invariant-steps g l =
-    Told (run_on l.settings l.fn.steps l.fn.first l.fn.machine.state) (run_on l.settings l.left l.hit l.machine.state)
+    HasDelivered (run_on l.settings l.fn.steps l.fn.first l.fn.machine.state)
+    (run_on l.settings l.left l.hit l.machine.state)
     l.fn.machine l.machine (g.W.Out.writing l.fn.out) (g.W.Out.writing l.out)
 
 abbrev pub decreases-steps : goal.decreases-steps

@@ -1,11 +1,11 @@
 use Rattle.std.proofs.Common.{◌≡◌, ◌∙◌}
-use Rattle.serving.proofs.Telling.{one_cut}
+use Rattle.serving.proofs.Delivering.{one_cut}
 use Rattle.debugger.specs.Answers.{step_piece}
 use Rattle.reference.specs.Step.{step}
 use Rattle.debugger.proofs.runs.write_chosen_step.Goals as goal
 
-pub returns-in-Err-clause-tells : goal.returns-in-Err-clause-tells
-returns-in-Err-clause-tells g c =
+pub returns-in-Err-clause-delivers : goal.returns-in-Err-clause-delivers
+returns-in-Err-clause-delivers g c =
     let s = c.args.machine.now.state in
     let same : c.as_slice-events.result.now ≡ (step s).events = c.as_slice-events.ensures.value
     ∙ c.step.ensures.events in

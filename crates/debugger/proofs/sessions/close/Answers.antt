@@ -1,5 +1,5 @@
 use Rattle.std.proofs.Common.{◌≡◌, ◌∙◌, refl}
-use Rattle.serving.proofs.Telling.{put_told}
+use Rattle.serving.proofs.Delivering.{put_delivers}
 use Rattle.debugger.specs.Answers.{closing_piece, closing_text}
 use Rattle.debugger.proofs.sessions.close.Goals as goal
 
@@ -7,4 +7,4 @@ pub returns : goal.returns
 returns g c =
     let s = c.args.machine.now.state in
     let same : c.as_slice.result.now ≡ closing_text s = c.as_slice.ensures ∙ c.closing_text-page.ensures in
-    put_told (closing_piece s) _ _ _ _ _ (rw (← same) c.put_all.ensures) refl
+    put_delivers (closing_piece s) _ _ _ _ _ (rw (← same) c.put_all.ensures) refl

@@ -1,5 +1,5 @@
 use Rattle.std.proofs.Common.{◌≡◌, ◌∙◌, refl}
-use Rattle.serving.proofs.Telling.{one_cut}
+use Rattle.serving.proofs.Delivering.{one_cut}
 use Rattle.debugger.specs.Answers.{task_text}
 use Rattle.debugger.proofs.tasks.put_task_end.Goals as goal
 

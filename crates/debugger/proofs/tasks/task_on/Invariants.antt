@@ -1,11 +1,11 @@
-use Rattle.serving.proofs.Telling.{Told}
+use Rattle.serving.proofs.Delivering.{HasDelivered}
 use Rattle.debugger.specs.Answers.{task_on}
 use Rattle.debugger.proofs.tasks.task_on.Given as goal
 
 -- the pieces so far went out, and those of the steps that are left are still to come
 abbrev pub invariant-steps : goal.invariant-steps
 invariant-steps g l =
-    Told (task_on l.settings l.fn.steps l.fn.machine.state) (task_on l.settings l.left l.machine.state)
+    HasDelivered (task_on l.settings l.fn.steps l.fn.machine.state) (task_on l.settings l.left l.machine.state)
     l.fn.machine l.machine (g.W.Out.writing l.fn.out) (g.W.Out.writing l.out)
 
 abbrev pub decreases-steps : goal.decreases-steps

@@ -1,6 +1,7 @@
 use Rattle.std.proofs.Common.{◌≡◌, ◌+◌, ◌-◌, ◌<◌, ◌≤◌, ◌++◌, ℕ, [], None, refl, sym, ◌∙◌}
 use Rattle.std.proofs.Common.{ap, arith, is_some, true, false}
-use Rattle.gdb.proofs.Slicing.{all_told, ended_before, ends_in, flow_made, goes_on, has_pieces, left_at, more_told}
+use Rattle.gdb.proofs.Slicing.{all_delivered, ended_before, ends_in, flow_made, continues, has_pieces, left_at}
+use Rattle.gdb.proofs.Slicing.{more_delivered}
 use Rattle.gdb.proofs.Slicing.{next_cut, none_left, not_before, nothing_yet, step_leaves}
 use Rattle.gdb.specs.Reasons.{reason_before}
 use Rattle.gdb_past.proofs.Following.{same_refl, same_trans}
@@ -17,8 +18,8 @@ steps-init g c = record {
 }
 
 -- the run ends before a step
-pub returns-then-is_some-clause-tells : goal.returns-then-is_some-clause-tells
-returns-then-is_some-clause-tells g c =
+pub returns-then-is_some-clause-delivers : goal.returns-then-is_some-clause-delivers
+returns-then-is_some-clause-delivers g c =
     let f : Flow = flow c.steps.progress c.steps.machine.state in
     let p = c.args.plan.now in
     let points = c.args.points.now in
@@ -26,7 +27,7 @@ returns-then-is_some-clause-tells g c =
     c.reason_before-before.ensures
     ∙ ap (λ (m : ℕ). reason_before points.breakpoints p.limit p.how m c.steps.machine.state) c.made.ensures in
     let has : is_some c.reason_before-before.result ≡ true = cc in
-    all_told _ _ _ _ _ _ c.steps.invariant.slides (ap (λ (r : Sliced). r.pieces)
+    all_delivered _ _ _ _ _ _ c.steps.invariant.slides (ap (λ (r : Sliced). r.pieces)
     (ended_before p points c.steps.left f _ c.steps-test.true before has))
 
 pub returns-then-is_some-clause-slices : goal.returns-then-is_some-clause-slices
@@ -47,8 +48,8 @@ make_step-requires-clause-room g c =
     omega (arith, some, c.steps.invariant.count, c.requires.room)
 
 -- it ends in one, or before one that hits a watchpoint
-pub returns-in-Ok-Some-clause-tells : goal.returns-in-Ok-Some-clause-tells
-returns-in-Ok-Some-clause-tells g c =
+pub returns-in-Ok-Some-clause-delivers : goal.returns-in-Ok-Some-clause-delivers
+returns-in-Ok-Some-clause-delivers g c =
     let f : Flow = flow c.steps.progress c.steps.machine.state in
     let p = c.args.plan.now in
     let points = c.args.points.now in
@@ -57,9 +58,9 @@ returns-in-Ok-Some-clause-tells g c =
     ∙ ap (λ (m : ℕ). reason_before points.breakpoints p.limit p.how m c.steps.machine.state) c.made.ensures in
     let none : is_some c.reason_before-before.result ≡ false = cc in
     let made = rw c.in-Ok-Some.field-0-is at c.in-Ok-Some.ensures in
-    all_told _ _ _ _ _ _
-    (more_told _ _ _ (one_step p points f).pieces _ _ _ _ _ _ c.steps.invariant.slides
-    (has_pieces p points c.steps.left f c.steps-test.true (not_before _ _ before none)) made.tells)
+    all_delivered _ _ _ _ _ _
+    (more_delivered _ _ _ (one_step p points f).pieces _ _ _ _ _ _ c.steps.invariant.slides
+    (has_pieces p points c.steps.left f c.steps-test.true (not_before _ _ before none)) made.delivers)
     (ap (λ (r : Sliced). r.pieces) (ends_in p points c.steps.left f c.in-Ok-Some.reason made.slices.0))
 
 pub returns-in-Ok-Some-clause-slices : goal.returns-in-Ok-Some-clause-slices
@@ -73,8 +74,8 @@ returns-in-Ok-Some-clause-slices g c =
     let none : is_some c.reason_before-before.result ≡ false = cc in
     let made = rw c.in-Ok-Some.field-0-is at c.in-Ok-Some.ensures in
     left_at _ _ _ _ _ _ _ _ (one_step p points f).flow _
-    (more_told _ _ _ (one_step p points f).pieces _ _ _ _ _ _ c.steps.invariant.slides
-    (has_pieces p points c.steps.left f c.steps-test.true (not_before _ _ before none)) made.tells)
+    (more_delivered _ _ _ (one_step p points f).pieces _ _ _ _ _ _ c.steps.invariant.slides
+    (has_pieces p points c.steps.left f c.steps-test.true (not_before _ _ before none)) made.delivers)
     (ends_in p points c.steps.left f c.in-Ok-Some.reason made.slices.0) made.slices.1
 
 pub returns-in-Ok-Some-clause-same : goal.returns-in-Ok-Some-clause-same
@@ -88,8 +89,8 @@ returns-in-Err-clause-same g c =
     same_trans c.args.machine.now.state c.steps.machine.state c.make_step.new.machine.state c.steps.invariant.same
     c.in-Err.ensures.same
 
-pub returns-in-Err-clause-tells : goal.returns-in-Err-clause-tells
-returns-in-Err-clause-tells g c =
+pub returns-in-Err-clause-delivers : goal.returns-in-Err-clause-delivers
+returns-in-Err-clause-delivers g c =
     let f : Flow = flow c.steps.progress c.steps.machine.state in
     let p = c.args.plan.now in
     let points = c.args.points.now in
@@ -98,7 +99,7 @@ returns-in-Err-clause-tells g c =
     ∙ ap (λ (m : ℕ). reason_before points.breakpoints p.limit p.how m c.steps.machine.state) c.made.ensures in
     let none : is_some c.reason_before-before.result ≡ false = cc in
     next_cut _ _ _ (one_step p points f).pieces _ _ _ _ _ _ c.steps.invariant.slides
-    (has_pieces p points c.steps.left f c.steps-test.true (not_before _ _ before none)) c.in-Err.ensures.tells
+    (has_pieces p points c.steps.left f c.steps-test.true (not_before _ _ before none)) c.in-Err.ensures.delivers
 
 -- it goes on
 pub steps-preserved : goal.steps-preserved
@@ -116,14 +117,14 @@ steps-preserved g c =
     let most : (one_step p points f).flow.made ≤ c.steps.progress.made + 1 = (step_leaves p points f).made in
     let some : 0 < c.steps.left = c.steps-test.true in
     record {
-      slides = more_told _ _ _ (one_step p points f).pieces _ _ _ _ _ _ c.steps.invariant.slides
+      slides = more_delivered _ _ _ (one_step p points f).pieces _ _ _ _ _ _ c.steps.invariant.slides
           (has_pieces p points c.steps.left f some (not_before _ _ before none)
           ∙ ap (λ (r : Sliced). record r { pieces = (one_step p points f).pieces ++ r.pieces })
-          (goes_on p points c.steps.left f made.slices.0
+          (continues p points c.steps.left f made.slices.0
           ∙ ap (λ (u : Flow). slice p points (c.steps.left - 1) u)
           (sym (flow_made p points f c.make_step.new.progress None c.steps.machine c.make_step.new.machine
-          (g.W.Out.writing c.steps.out) (g.W.Out.writing c.make_step.new.out) refl made.tells made.slices))))
-          made.tells;
+          (g.W.Out.writing c.steps.out) (g.W.Out.writing c.make_step.new.out) refl made.delivers made.slices))))
+          made.delivers;
       count = omega (arith, c.steps.invariant.count, more, most, some);
       ready = made.ready;
       fits = made.fits;
@@ -132,11 +133,11 @@ steps-preserved g c =
     }
 
 -- all steps were made
-pub returns-clause-tells : goal.returns-clause-tells
-returns-clause-tells g c =
+pub returns-clause-delivers : goal.returns-clause-delivers
+returns-clause-delivers g c =
     let f : Flow = flow c.steps.progress c.steps.machine.state in
     let over : c.steps.left ≡ 0 = omega arith in
-    all_told _ _ _ _ _ _ c.steps.invariant.slides (ap (λ (r : Sliced). r.pieces)
+    all_delivered _ _ _ _ _ _ c.steps.invariant.slides (ap (λ (r : Sliced). r.pieces)
     (none_left c.args.plan.now c.args.points.now c.steps.left f over))
 
 pub returns-clause-slices : goal.returns-clause-slices

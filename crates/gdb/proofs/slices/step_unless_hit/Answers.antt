@@ -2,16 +2,16 @@ use Rattle.std.proofs.Common.{◌≡◌, ◌==◌, ◌∙◌, length, refl, subs
 use Rattle.gdb.proofs.Slicing.{none_watched}
 use Rattle.gdb_past.proofs.Following.{same_refl, same_step, same_sym, same_trans}
 use Rattle.gdb_past.specs.Places.{AreOfOneMachine}
-use Rattle.machine.specs.Whole.{Whole}
+use Rattle.machine.specs.MachineModel.{MachineModel}
 use Rattle.reference.specs.State.{State}
 use Rattle.reference.specs.Step.{step}
 use Rattle.gdb.proofs.slices.step_unless_hit.Goals as goal
 
 -- the state after the step is one of the same machine
-stepped : (s : State) (old new : Whole) → old.state ≡ s → new ≡ record old { state = (step old.state).state }
+stepped : (s : State) (old new : MachineModel) → old.state ≡ s → new ≡ record old { state = (step old.state).state }
     → AreOfOneMachine s new.state
 stepped s old new same stands =
-    subst (λ (m : Whole). AreOfOneMachine s m.state) (sym stands)
+    subst (λ (m : MachineModel). AreOfOneMachine s m.state) (sym stands)
     (subst (λ (u : State). AreOfOneMachine s (step u).state) (sym same) (same_step s))
 
 pub returns-then-is_empty-clause-hit : goal.returns-then-is_empty-clause-hit

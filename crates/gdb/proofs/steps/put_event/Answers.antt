@@ -1,6 +1,6 @@
 use Rattle.std.proofs.Common.{◌≡◌, ℕ, List, true, false, Some, None, sym, subst, ◌∙◌}
 use Rattle.gdb.proofs.Showing.{shown_none}
-use Rattle.gdb.specs.Consoles.{Shows}
+use Rattle.gdb.specs.Consoles.{ShowsText}
 use Rattle.platform.specs.Events.{byte_of, line}
 use Rattle.trace.proofs.Selecting.{byte_selected, line_selected, not_selected}
 use Rattle.trace.specs.Selection.{selects, writes_bytes}
@@ -31,6 +31,6 @@ returns g c =
     let chosen : selects c.args.selection c.args.event.now.what ≡ true = cc in
     let lined : writes_bytes c.args.selection ≡ false = cc in
     let same : c.as_slice.result.now ≡ line c.args.event.now = c.as_slice.ensures ∙ c.event_line.ensures in
-    subst (λ (text : List ℕ). Shows (g.W.Out.writing c.args.out.now) (g.W.Out.writing c.put-2.new.out)
+    subst (λ (text : List ℕ). ShowsText (g.W.Out.writing c.args.out.now) (g.W.Out.writing c.put-2.new.out)
     c.args.console.now c.put-2.new.self text c.put-2.result)
     (same ∙ sym (line_selected c.args.selection c.args.event.now chosen lined)) c.put-2.ensures

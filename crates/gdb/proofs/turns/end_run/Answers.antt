@@ -8,36 +8,43 @@ use Rattle.gdb.proofs.turns.end_run.Goals as goal
 
 pub returns-in-Err : goal.returns-in-Err
 returns-in-Err g c =
-    ends_first c.args.plan.now.settings c.args.watchpoints.now c.args.features c.args.reason c.args.progress.now c.args.machine.now
+    ends_first c.args.plan.now.settings c.args.watchpoints.now c.args.features c.args.reason c.args.progress.now
+    c.args.machine.now
     (g.W.Out.writing c.args.out.now) (g.W.Out.writing c.put_whys.new.out) c.told_stop.result
     (c.told_stop.ensures ∙ ap (λ (o : Option Stop). told_stop c.args.reason o) c.stop.ensures) c.in-Err.ensures.shows
 
 pub returns-in-Err-flush : goal.returns-in-Err-flush
 returns-in-Err-flush g c =
-    ends_second c.args.plan.now.settings c.args.watchpoints.now c.args.features c.args.reason c.args.progress.now c.put_whys.new.self
+    ends_second c.args.plan.now.settings c.args.watchpoints.now c.args.features c.args.reason c.args.progress.now
+    c.put_whys.new.self
     c.args.machine.now (g.W.Out.writing c.args.out.now) (g.W.Out.writing c.put_whys.new.out)
     (g.W.Out.writing c.flush.new.out)
-    (told_as c.args.plan.now.settings c.args.watchpoints.now c.args.reason c.args.progress.now c.put_whys.new.self c.args.machine.now
+    (told_as c.args.plan.now.settings c.args.watchpoints.now c.args.reason c.args.progress.now c.put_whys.new.self
+    c.args.machine.now
     (g.W.Out.writing c.args.out.now) (g.W.Out.writing c.put_whys.new.out) c.told_stop.result
     (c.told_stop.ensures ∙ ap (λ (o : Option Stop). told_stop c.args.reason o) c.stop.ensures) c.in-Ok.ensures.shows)
     c.in-Err-flush.ensures.put.0 c.in-Err-flush.ensures.put.1
 
 pub returns-in-Err-send_stop_reply : goal.returns-in-Err-send_stop_reply
 returns-in-Err-send_stop_reply g c =
-    ends_third c.args.plan.now.settings c.args.watchpoints.now c.args.features c.args.reason c.args.progress.now c.put_whys.new.self
+    ends_third c.args.plan.now.settings c.args.watchpoints.now c.args.features c.args.reason c.args.progress.now
+    c.put_whys.new.self
     c.args.machine.now (g.W.Out.writing c.args.out.now) (g.W.Out.writing c.put_whys.new.out)
     (g.W.Out.writing c.flush.new.out) (g.W.Out.writing c.send_stop_reply.new.out)
-    (told_as c.args.plan.now.settings c.args.watchpoints.now c.args.reason c.args.progress.now c.put_whys.new.self c.args.machine.now
+    (told_as c.args.plan.now.settings c.args.watchpoints.now c.args.reason c.args.progress.now c.put_whys.new.self
+    c.args.machine.now
     (g.W.Out.writing c.args.out.now) (g.W.Out.writing c.put_whys.new.out) c.told_stop.result
     (c.told_stop.ensures ∙ ap (λ (o : Option Stop). told_stop c.args.reason o) c.stop.ensures) c.in-Ok.ensures.shows)
     c.in-Ok-flush.ensures.put c.in-Err-send_stop_reply.ensures.put.0 c.in-Err-send_stop_reply.ensures.put.1
 
 pub returns-in-Ok-send_stop_reply : goal.returns-in-Ok-send_stop_reply
 returns-in-Ok-send_stop_reply g c = record {
-  tells = ends_all c.args.plan.now.settings c.args.watchpoints.now c.args.features c.args.reason c.args.progress.now c.put_whys.new.self
+  delivers = ends_all c.args.plan.now.settings c.args.watchpoints.now c.args.features c.args.reason c.args.progress.now
+      c.put_whys.new.self
       c.args.machine.now (g.W.Out.writing c.args.out.now) (g.W.Out.writing c.put_whys.new.out)
       (g.W.Out.writing c.flush.new.out) (g.W.Out.writing c.send_stop_reply.new.out)
-      (told_as c.args.plan.now.settings c.args.watchpoints.now c.args.reason c.args.progress.now c.put_whys.new.self c.args.machine.now
+      (told_as c.args.plan.now.settings c.args.watchpoints.now c.args.reason c.args.progress.now c.put_whys.new.self
+      c.args.machine.now
       (g.W.Out.writing c.args.out.now) (g.W.Out.writing c.put_whys.new.out) c.told_stop.result
       (c.told_stop.ensures ∙ ap (λ (o : Option Stop). told_stop c.args.reason o) c.stop.ensures) c.in-Ok.ensures.shows)
       c.in-Ok-flush.ensures.put c.in-Ok-send_stop_reply.ensures.put;

@@ -8,7 +8,12 @@ use Rattle.gdb.specs.Turns.{all_slices, slices, steps_at_once}
 use Rattle.gdb.proofs.turns.make_slices.Goals as goal
 
 pub slices-init : goal.slices-init
-slices-init g c = record { goes = not_begun _ _ _; count = omega (arith, c.requires.room); fits = c.requires.fits; same = same_refl c.args.machine.now.state }
+slices-init g c = record {
+  goes = not_begun _ _ _;
+  count = omega (arith, c.requires.room);
+  fits = c.requires.fits;
+  same = same_refl c.args.machine.now.state;
+}
 
 pub run_slice-requires-clause-room : goal.run_slice-requires-clause-room
 run_slice-requires-clause-room g c = omega (arith, c.slices.invariant.count, c.slices-test.true)
@@ -22,7 +27,7 @@ returns-in-Err-clause-takes g c =
     let some : c.slices.whole ≡ suc (c.slices.whole - 1) = omega (arith, c.slices-test.true) in
     rest_cut _ _ _ (slice p points steps_at_once f).pieces _ _ _ _ _ _ c.slices.invariant.goes
     (some_left p points features c.slices.whole (c.slices.whole - 1) (c.args.left % steps_at_once) f some)
-    c.in-Err.ensures.tells
+    c.in-Err.ensures.delivers
 
 pub returns-in-Ok-Some-clause-takes : goal.returns-in-Ok-Some-clause-takes
 returns-in-Ok-Some-clause-takes g c =
@@ -37,7 +42,7 @@ returns-in-Ok-Some-clause-takes g c =
     c.run_slice.new.progress _ c.in-Ok-Some.reason c.args.machine.now c.slices.machine c.run_slice.new.machine
     (g.W.Out.writing c.args.out.now) (g.W.Out.writing c.slices.out) (g.W.Out.writing c.run_slice.new.out)
     (g.W.Out.writing c.end_run.new.out) c.end_run.new.sent.items c.end_run.result c.slices.invariant.goes some
-    made.tells made.slices refl refl c.end_run.ensures
+    made.delivers made.slices refl refl c.end_run.ensures
 
 pub returns-in-Err-flush-clause-takes : goal.returns-in-Err-flush-clause-takes
 returns-in-Err-flush-clause-takes g c =
@@ -53,7 +58,7 @@ returns-in-Err-flush-clause-takes g c =
     (all_slices p points features c.args.left (flow c.args.progress.now c.args.machine.now.state))
     c.run_slice.new.progress _ c.args.machine.now c.slices.machine c.run_slice.new.machine
     (g.W.Out.writing c.args.out.now) (g.W.Out.writing c.slices.out) (g.W.Out.writing c.run_slice.new.out)
-    c.slices.invariant.goes some made.tells made.slices refl refl)
+    c.slices.invariant.goes some made.delivers made.slices refl refl)
     c.in-Err-flush.ensures.put.0 c.in-Err-flush.ensures.put.1
 
 pub returns-in-Ok-send_packet-clause-takes : goal.returns-in-Ok-send_packet-clause-takes
@@ -76,7 +81,7 @@ returns-in-Ok-send_packet-clause-takes g c =
     (all_slices p points features c.args.left (flow c.args.progress.now c.args.machine.now.state))
     c.run_slice.new.progress _ c.args.machine.now c.slices.machine c.run_slice.new.machine
     (g.W.Out.writing c.args.out.now) (g.W.Out.writing c.slices.out) (g.W.Out.writing c.run_slice.new.out)
-    c.slices.invariant.goes some made.tells made.slices refl refl)
+    c.slices.invariant.goes some made.delivers made.slices refl refl)
     c.in-Ok.ensures.put c.in-Ok.ensures.kept)
     gdb c.in-Ok-send_packet.ensures.put (c.asked.ensures c.run_slice.new.machine.state) c.send_packet.ensures.sent
 
@@ -99,7 +104,7 @@ returns-in-Err-send_packet-clause-takes g c =
     (all_slices p points features c.args.left (flow c.args.progress.now c.args.machine.now.state))
     c.run_slice.new.progress _ c.args.machine.now c.slices.machine c.run_slice.new.machine
     (g.W.Out.writing c.args.out.now) (g.W.Out.writing c.slices.out) (g.W.Out.writing c.run_slice.new.out)
-    c.slices.invariant.goes some made.tells made.slices refl refl)
+    c.slices.invariant.goes some made.delivers made.slices refl refl)
     c.in-Ok.ensures.put c.in-Ok.ensures.kept)
     gdb c.in-Err-send_packet.ensures.put.0 c.in-Err-send_packet.ensures.put.1
 
@@ -165,7 +170,7 @@ slices-preserved g c =
           (all_slices p points features c.args.left (flow c.args.progress.now c.args.machine.now.state))
           c.run_slice.new.progress _ c.args.machine.now c.slices.machine c.run_slice.new.machine
           (g.W.Out.writing c.args.out.now) (g.W.Out.writing c.slices.out) (g.W.Out.writing c.run_slice.new.out)
-          c.slices.invariant.goes some made.tells made.slices refl refl)
+          c.slices.invariant.goes some made.delivers made.slices refl refl)
           c.in-Ok.ensures.put c.in-Ok.ensures.kept) other;
       count = omega (arith, c.slices.invariant.count, c.slices-test.true, same, steps, most);
       fits = made.fits;

@@ -1,6 +1,6 @@
 use Rattle.std.proofs.Common.{◌≡◌, ◌∙◌, ap, arith, refl, sym}
-use Rattle.exceptions.proofs.Serving.{bus_changed, emitted_all, emitted_on, lines_emitted, own_bus}
-use Rattle.exceptions.proofs.Serving.{still_before, value_read}
+use Rattle.exceptions.proofs.Performing.{bus_changed, emitted_all, emitted_on, lines_emitted, own_bus}
+use Rattle.exceptions.proofs.Performing.{still_before, value_read}
 use Rattle.exec.proofs.Listed.{first_asked}
 use Rattle.machine.proofs.WordLists.{grants_then, one_word, request_is, room_here, room_on, word_failed, words_done}
 use Rattle.reference.specs.State.{Bus, State, with_bus}
@@ -10,7 +10,8 @@ pub registers-init : goal.registers-init
 registers-init g c =
     let first = c.next_listed-number.ensures in
     let asked =
-    first_asked c.args.kind c.args.words.now.address c.args.words.now.list c.next_listed-number.result c.args.core.now.registers first in
+    first_asked c.args.kind c.args.words.now.address c.args.words.now.list c.next_listed-number.result
+    c.args.core.now.registers first in
     record {
       state = refl;
       rest = rw (c.clear.ensures, asked) refl;

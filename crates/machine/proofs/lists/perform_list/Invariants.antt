@@ -1,7 +1,7 @@
 use Rattle.std.proofs.Common.{◌≡◌, ◌+◌, ◌-◌, ◌<◌, ◌≤◌, [], length, true, IfSome}
 use Rattle.access.specs.KeptAccesses.{GrantsNow}
-use Rattle.exceptions.proofs.Serving.{added_to}
-use Rattle.exceptions.specs.LineBounds.{most_lines}
+use Rattle.exceptions.proofs.Performing.{added_to}
+use Rattle.exceptions.specs.LineBounds.{max_lines}
 use Rattle.instruction_set.specs.Words.{is_bit}
 use Rattle.machine.proofs.WordLists.{words_from}
 use Rattle.reference.specs.Accesses.{perform_all}
@@ -23,9 +23,9 @@ invariant-registers g l = record {
   before : g.S.Sink.emitted l.events
       ≡ record (g.S.Sink.emitted l.fn.events) { events = (g.S.Sink.emitted l.events).events };
   room : length (g.S.Sink.emitted l.events).events
-      + most_lines (words_from l.kind l.at l.words.list l.number l.fn.core.registers)
+      + max_lines (words_from l.kind l.at l.words.list l.number l.fn.core.registers)
       ≤ length (g.S.Sink.emitted l.fn.events).events
-      + most_lines (word_requests l.kind l.words.address (registers_of l.words.list) l.fn.core.registers);
+      + max_lines (word_requests l.kind l.words.address (registers_of l.words.list) l.fn.core.registers);
   few : length l.values.items ≤ l.number;
   within : l.number ≤ 16;
   listed : l.number < 16 → is_bit l.words.list l.number ≡ true;

@@ -5,6 +5,6 @@ use Rattle.scs.proofs.interrupts.read_interrupts.Given as goal
 -- the bits that were looked at are those of the value
 abbrev pub invariant-each : goal.invariant-each
 invariant-each g l = record {
-  shown : l.value ≡ shown_below (g.L.Levels.content l.levels) l.register l.first l.bit;
+  shown : l.value ≡ shown_below (g.L.Exceptions.content l.exceptions) l.register l.first l.bit;
   small : l.value < 2 ^ l.bit;
 }

@@ -5,4 +5,5 @@ use Rattle.scs.proofs.interrupts.write_interrupts.Given as goal
 -- the bits that were looked at have done what they do
 abbrev pub invariant-each : goal.invariant-each
 invariant-each g l =
-    g.L.Levels.content l.levels ≡ with_bits_below (g.L.Levels.content l.fn.levels) l.register l.first l.value l.bit
+    g.L.Exceptions.content l.exceptions
+    ≡ with_bits_below (g.L.Exceptions.content l.fn.exceptions) l.register l.first l.value l.bit

@@ -5,4 +5,5 @@ use Rattle.scs.proofs.interrupts.write_priorities.Given as goal
 -- the exceptions that were looked at have their bytes
 abbrev pub invariant-each : goal.invariant-each
 invariant-each g l =
-    g.L.Levels.content l.levels ≡ write_priorities_of (g.L.Levels.content l.fn.levels) l.first l.value l.index
+    g.L.Exceptions.content l.exceptions
+    ≡ write_priorities_of (g.L.Exceptions.content l.fn.exceptions) l.first l.value l.index

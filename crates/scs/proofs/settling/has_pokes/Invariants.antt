@@ -1,6 +1,6 @@
 use Rattle.std.proofs.Common.{◌≡◌, drop}
 use Rattle.platform.specs.System.{pokes_of}
-use Rattle.scs.specs.Levels.{are_pokes}
+use Rattle.scs.specs.LineLevels.{are_pokes}
 use Rattle.scs.proofs.settling.has_pokes.Given as goal
 
 -- no event poked so far

@@ -1,7 +1,7 @@
 use Rattle.std.proofs.Common.{◌≡◌, ◌||◌, drop}
 use Rattle.devices.specs.Pokes.{poked_all}
 use Rattle.platform.specs.System.{pokes_of}
-use Rattle.scs.specs.Levels.{are_pokes}
+use Rattle.scs.specs.LineLevels.{are_pokes}
 use Rattle.scs.proofs.settling.poke_by.Given as goal
 
 -- the events that are left poke the rest

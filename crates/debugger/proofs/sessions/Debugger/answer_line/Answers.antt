@@ -3,7 +3,7 @@ use Rattle.debugger.proofs.Rooms.{line_held, room_after}
 use Rattle.debugger.specs.Held.{Held, kept_of}
 use Rattle.debugger.specs.Sessions.{line_asked}
 use Rattle.debugger.specs.Slots.{HaveRoom}
-use Rattle.machine.specs.Whole.{Whole}
+use Rattle.machine.specs.MachineModel.{MachineModel}
 use Rattle.debugger.proofs.sessions.Debugger.answer_line.Goals as goal
 
 pub returns-in-Ok-clause-kept : goal.returns-in-Ok-clause-kept
@@ -11,7 +11,7 @@ returns-in-Ok-clause-kept g c =
     let s = c.args.machine.now.state in
     let h : Held = record {
       settings = c.self.inside.settings;
-      line = c.self.inside.listener;
+      line = c.self.inside.line_buffer;
       slots = c.self.inside.slots;
       is_open = c.self.inside.is_open;
     } in
@@ -23,4 +23,5 @@ pub returns-in-Ok-clause-room : goal.returns-in-Ok-clause-room
 returns-in-Ok-clause-room g c =
     let room : HaveRoom c.self.inside.slots c.args.machine.now.state.bus = rw (← c.self.view_is) at c.requires in
     room_after c.self.inside.settings c.args.machine.now.state _ c.self.inside.slots _ c.read_line-asked.result room
-    (ap (λ (h : Held). h.slots) c.answer.ensures.kept) (ap (λ (m : Whole). m.state) c.in-Ok.ensures.tells.stands)
+    (ap (λ (h : Held). h.slots) c.answer.ensures.kept)
+    (ap (λ (m : MachineModel). m.state) c.in-Ok.ensures.delivers.stands)

@@ -9,7 +9,7 @@ pub take-requires : goal.take-requires
 take-requires g c =
     subst (λ (s : State). AreOfOneMachine c.args.self.now s) (sym c.requires) (same_step c.args.self.now)
 
-pub returns-then-self-lt-MOST_STEPS : goal.returns-then-self-lt-MOST_STEPS
-returns-then-self-lt-MOST_STEPS g c =
+pub returns-then-self-lt-MAX_STEPS : goal.returns-then-self-lt-MAX_STEPS
+returns-then-self-lt-MAX_STEPS g c =
     after_more c.self.inside.steps (c.self.inside.steps + 1) c.self.inside.kept (omega arith)
     ∙ (ap (λ (s : State). (step s).state) c.self.view_is ∙ sym c.requires)

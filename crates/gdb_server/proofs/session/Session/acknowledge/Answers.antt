@@ -1,9 +1,9 @@
 use Rattle.std.proofs.Common.{◌≡◌, true, [], ◌∷◌, ◌∙◌, refl, sym}
 use Rattle.gdb_server.specs.Conduct.{piece}
-use Rattle.serving.proofs.Telling.{put_told}
+use Rattle.serving.proofs.Delivering.{put_delivers}
 use Rattle.gdb_server.proofs.session.Session.acknowledge.Goals as goal
 
 pub returns-then-acknowledges : goal.returns-then-acknowledges
 returns-then-acknowledges g c =
     let on : c.args.self.now.acknowledges ≡ true = sym c.acknowledges.ensures ∙ c.if-acknowledges.true in
-    rw on (put_told (piece c.args.machine.now.state (c.args.byte ∷ [])) _ _ _ _ _ c.put_byte.ensures refl)
+    rw on (put_delivers (piece c.args.machine.now.state (c.args.byte ∷ [])) _ _ _ _ _ c.put_byte.ensures refl)

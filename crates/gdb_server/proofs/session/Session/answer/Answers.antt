@@ -1,11 +1,15 @@
-use Rattle.std.proofs.Common.{◌≡◌, ◌∙◌, rules}
+use Rattle.std.proofs.Common.{◌≡◌, ◌∙◌, rules, subst, sym}
+use Rattle.gdb_past.proofs.Following.{same_sym}
+use Rattle.gdb_past.specs.Places.{AreOfOneMachine}
 use Rattle.gdb_server.proofs.Keeping.{moved}
 use Rattle.gdb_server.specs.Conduct.{answered}
+use Rattle.machine.specs.MachineModel.{MachineModel}
+use Rattle.reference.specs.State.{State}
 use Rattle.gdb_server.proofs.session.Session.answer.Goals as goal
 
-pub returns-in-Say-clause-tells : goal.returns-in-Say-clause-tells
-returns-in-Say-clause-tells g c =
-    rw c.in-Say.is (rw (c.of.ensures ∙ c.constant_text.ensures.text) at c.reply.ensures.tells)
+pub returns-in-Say-clause-delivers : goal.returns-in-Say-clause-delivers
+returns-in-Say-clause-delivers g c =
+    rw c.in-Say.is (rw (c.of.ensures ∙ c.constant_text.ensures.text) at c.reply.ensures.delivers)
 
 pub returns-in-Say-clause-kept : goal.returns-in-Say-clause-kept
 returns-in-Say-clause-kept g c =
@@ -14,8 +18,8 @@ returns-in-Say-clause-kept g c =
     rw c.in-Say.is (rw (c.of.ensures ∙ c.constant_text.ensures.text) at c.reply.ensures.kept) in
     search rules
 
-pub returns-in-Read-clause-tells : goal.returns-in-Read-clause-tells
-returns-in-Read-clause-tells g c = rw c.in-Read.is (rw c.read-data.ensures at c.reply-in-Read.ensures.tells)
+pub returns-in-Read-clause-delivers : goal.returns-in-Read-clause-delivers
+returns-in-Read-clause-delivers g c = rw c.in-Read.is (rw c.read-data.ensures at c.reply-in-Read.ensures.delivers)
 
 pub returns-in-Read-clause-kept : goal.returns-in-Read-clause-kept
 returns-in-Read-clause-kept g c =
@@ -24,10 +28,10 @@ returns-in-Read-clause-kept g c =
     rw c.in-Read.is (rw c.read-data.ensures at c.reply-in-Read.ensures.kept) in
     search rules
 
-pub returns-in-Set-clause-tells : goal.returns-in-Set-clause-tells
-returns-in-Set-clause-tells g c =
+pub returns-in-Set-clause-delivers : goal.returns-in-Set-clause-delivers
+returns-in-Set-clause-delivers g c =
     rw c.in-Set.is
-    (rw c.set-data.ensures.answer at c.reply-in-Set.ensures.tells)
+    (rw c.set-data.ensures.answer at c.reply-in-Set.ensures.delivers)
 
 pub returns-in-Set-clause-kept : goal.returns-in-Set-clause-kept
 returns-in-Set-clause-kept g c =
@@ -37,7 +41,13 @@ returns-in-Set-clause-kept g c =
     (rw (c.set-data.ensures.answer, c.set-data.ensures.kept) at c.reply-in-Set.ensures.kept) in
     search rules
 
-pub returns-in-Restart-clause-tells : goal.returns-in-Restart-clause-tells
-returns-in-Restart-clause-tells g c =
+pub returns-in-Restart-clause-delivers : goal.returns-in-Restart-clause-delivers
+returns-in-Restart-clause-delivers g c =
     rw c.in-Restart.is (moved c.args.self.now.past.start c.args.machine.now c.restart.new.machine
-    (g.W.Out.writing c.args.out.now) c.restart.ensures)
+    (g.W.Out.writing c.args.out.now) c.restart.ensures.machine)
+
+pub returns-in-Restart-clause-same : goal.returns-in-Restart-clause-same
+returns-in-Restart-clause-same g c =
+    let s : State = c.args.machine.now.state in
+    subst (λ (m : MachineModel). AreOfOneMachine s m.state) (sym c.restart.ensures.machine)
+    (same_sym c.args.self.now.past.start s c.requires)

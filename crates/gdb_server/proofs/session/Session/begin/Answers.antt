@@ -1,23 +1,40 @@
-use Rattle.std.proofs.Common.{◌≡◌, ◌∙◌, ℕ, List, Result, ap, subst}
+use Rattle.std.proofs.Common.{◌≡◌, List, ℕ, Result, ap, subst, sym}
+use Rattle.gdb_past.proofs.Following.{same_sym}
+use Rattle.gdb_past.specs.Places.{AreOfOneMachine}
+use Rattle.gdb_server.proofs.Marking.{begun_data, session_begun}
 use Rattle.gdb_server.specs.Conduct.{piece}
 use Rattle.gdb_server.specs.declared.purposes.Reading.TheVariants as reading
 use Rattle.gdb_server.specs.Replies.{data_read}
 use Rattle.gdb_server.specs.Sessions.{reply_packet}
 use Rattle.gdb_texts.specs.declared.replies.ErrorCode.{ErrorCode}
-use Rattle.machine.specs.Whole.{Whole}
+use Rattle.machine.specs.MachineModel.{MachineModel}
 use Rattle.output.specs.Output.{Put}
 use Rattle.reference.specs.State.{State}
-use Rattle.serving.proofs.Telling.{put_told}
+use Rattle.serving.proofs.Delivering.{put_delivers}
 use Rattle.gdb_server.proofs.session.Session.begin.Goals as goal
 
-pub returns-clause-tells : goal.returns-clause-tells
-returns-clause-tells g c =
+pub returns-clause-delivers : goal.returns-clause-delivers
+returns-clause-delivers g c =
     let k = c.args.self.now in
     let s : State = k.past.start in
-    let at : c.restart.new.machine.state ≡ s = ap (λ (m : Whole). m.state) c.restart.ensures in
+    let at : c.restart.new.machine.state ≡ s = ap (λ (m : MachineModel). m.state) c.restart.ensures.machine in
     let same : c.read-data.result ≡ data_read k.signal k.board k.devices s reading.StopReason =
-    c.read-data.ensures ∙ ap (λ (u : State). data_read k.signal k.board k.devices u reading.StopReason) at in
-    put_told (piece s (reply_packet (data_read k.signal k.board k.devices s reading.StopReason))) _ _ _ _ _
+    begun_data k c.restart.new.self c.restart.new.machine.state c.read-data.result c.restart.ensures.kept at
+    c.read-data.ensures in
+    put_delivers (piece s (reply_packet (data_read k.signal k.board k.devices s reading.StopReason))) _ _ _ _ _
     (subst (λ (answer : Result (List ℕ) ErrorCode). Put (g.W.Out.writing c.args.out.now)
     (g.W.Out.writing c.put_reply.new.out) (reply_packet answer) c.put_reply.result) same c.put_reply.ensures.put)
-    c.restart.ensures
+    c.restart.ensures.machine
+
+pub returns-clause-kept : goal.returns-clause-kept
+returns-clause-kept g c =
+    let k = c.args.self.now in
+    session_begun k c.restart.new.self c.put_reply.new.self c.restart.new.machine.state c.read-data.result
+    c.restart.ensures.kept (ap (λ (m : MachineModel). m.state) c.restart.ensures.machine) c.read-data.ensures
+    c.put_reply.ensures.kept
+
+pub returns-clause-same : goal.returns-clause-same
+returns-clause-same g c =
+    let s : State = c.args.machine.now.state in
+    subst (λ (m : MachineModel). AreOfOneMachine s m.state) (sym c.restart.ensures.machine)
+    (same_sym c.args.self.now.past.start s c.requires)

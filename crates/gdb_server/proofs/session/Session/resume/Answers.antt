@@ -1,18 +1,18 @@
 use Rattle.gdb_past.proofs.Following.{same_sym, same_trans}
 use Rattle.gdb_server.proofs.session.Session.resume.Goals as goal
 
-pub returns-in-Ok-clause-tells : goal.returns-in-Ok-clause-tells
-returns-in-Ok-clause-tells g c = rw (← c.self.view_is) c.in-Ok.ensures.tells
+pub returns-in-Ok-clause-delivers : goal.returns-in-Ok-clause-delivers
+returns-in-Ok-clause-delivers g c = rw (← c.self.view_is) c.in-Ok.ensures.delivers
 
 pub returns-in-Ok-clause-kept : goal.returns-in-Ok-clause-kept
 returns-in-Ok-clause-kept g c =
     rw (← c.self.view_is) (rw (c.in-Ok.ensures.outcome, c.in-Ok.ensures.sent) at c.keep_turn.ensures)
 
-pub returns-in-Err-clause-tells : goal.returns-in-Err-clause-tells
-returns-in-Err-clause-tells g c = rw (← c.self.view_is) c.in-Err.ensures.tells
+pub returns-in-Err-clause-delivers : goal.returns-in-Err-clause-delivers
+returns-in-Err-clause-delivers g c = rw (← c.self.view_is) c.in-Err.ensures.delivers
 
-pub go_on-requires : goal.go_on-requires
-go_on-requires g c =
+pub run_turn-requires : goal.run_turn-requires
+run_turn-requires g c =
     same_trans c.self.inside.position c.self.inside.past.start c.args.machine.now.state
     (same_sym c.self.inside.past.start c.self.inside.position c.self.invariant.0)
     (rw (← c.self.view_is) at c.requires)
@@ -21,10 +21,10 @@ pub invariant_of-self : goal.invariant_of-self
 invariant_of-self g c =
     let start = c.self.inside.past.start in
     let made = c.in-Ok.ensures in (
-      same_trans start c.go_on.new.machine.state c.go_on.new.position
-          (same_trans start c.args.machine.now.state c.go_on.new.machine.state (rw (← c.self.view_is) at c.requires)
+      same_trans start c.run_turn.new.machine.state c.run_turn.new.position
+          (same_trans start c.args.machine.now.state c.run_turn.new.machine.state (rw (← c.self.view_is) at c.requires)
           made.same)
-          (same_sym c.go_on.new.position c.go_on.new.machine.state made.fits),
+          (same_sym c.run_turn.new.position c.run_turn.new.machine.state made.fits),
       c.self.invariant.1,
     )
 
@@ -32,9 +32,9 @@ pub invariant_of-self-in-Err : goal.invariant_of-self-in-Err
 invariant_of-self-in-Err g c =
     let start = c.self.inside.past.start in
     let made = c.in-Err.ensures in (
-      same_trans start c.go_on.new.machine.state c.go_on.new.position
-          (same_trans start c.args.machine.now.state c.go_on.new.machine.state (rw (← c.self.view_is) at c.requires)
+      same_trans start c.run_turn.new.machine.state c.run_turn.new.position
+          (same_trans start c.args.machine.now.state c.run_turn.new.machine.state (rw (← c.self.view_is) at c.requires)
           made.same)
-          (same_sym c.go_on.new.position c.go_on.new.machine.state made.fits),
+          (same_sym c.run_turn.new.position c.run_turn.new.machine.state made.fits),
       c.self.invariant.1,
     )

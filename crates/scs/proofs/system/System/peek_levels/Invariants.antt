@@ -1,6 +1,6 @@
 use Rattle.std.proofs.Common.{◌≡◌, drop}
 use Rattle.platform.specs.System.{with_levels}
-use Rattle.scs.specs.Levels.{seen}
+use Rattle.scs.specs.LineLevels.{seen}
 use Rattle.scs.proofs.system.System.peek_levels.Given as goal
 
 -- the levels that are left do the rest

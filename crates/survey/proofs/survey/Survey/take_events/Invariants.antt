@@ -4,4 +4,4 @@ use Rattle.survey.proofs.survey.Survey.take_events.Given as goal
 
 abbrev pub invariant-loop-event : goal.invariant-loop-event
 invariant-loop-event l =
-    with_events l.moment l.self (drop l.event-index l.events) ≡ with_events l.fn.moment l.fn.self l.fn.events
+    with_events l.start l.self (drop l.event-index l.events) ≡ with_events l.fn.start l.fn.self l.fn.events

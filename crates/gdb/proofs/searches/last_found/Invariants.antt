@@ -1,0 +1,12 @@
+use Rattle.std.proofs.Common.{◌≡◌, ◌+◌}
+use Rattle.gdb.specs.Searches.{last_found}
+use Rattle.gdb_past.specs.Places.{AreOfOneMachine}
+use Rattle.reference.specs.Run.{after}
+use Rattle.gdb.proofs.searches.last_found.Given as goal
+
+-- so many steps were made, and this is the last place among those that they led to
+abbrev pub invariant-steps : goal.invariant-steps
+invariant-steps g l = record {
+  machine : l.machine ≡ record l.fn.machine { state = after (l.low + l.step) l.fn.machine.state };
+  found : l.found ≡ last_found l.quest l.points l.settings l.fn.machine.state l.low l.step;
+}

@@ -1,0 +1,16 @@
+use Rattle.std.proofs.Common.{◌≡◌, ◌∷◌, drop, slice_index_or}
+use Rattle.gdb.specs.Searches.{place_back}
+use Rattle.gdb_past.specs.Places.{AreOfOneMachine}
+use Rattle.reference.specs.State.{State}
+use Rattle.gdb.proofs.searches.place_back.Given as goal
+
+-- no later mark has a place
+abbrev pub invariant-marks : goal.invariant-marks
+invariant-marks g l = record {
+  place : (s : State) →
+      place_back l.quest l.points l.settings l.low (slice_index_or (s ∷ l.past.marks) l.number s)
+      (drop l.number l.past.marks)
+      ≡ place_back l.fn.quest l.points l.settings l.low s l.past.marks;
+  same : AreOfOneMachine l.past.start l.machine.state;
+  kept : l.machine.broken ≡ l.fn.machine.broken;
+}

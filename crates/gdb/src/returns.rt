@@ -1,0 +1,236 @@
+//! Turns of going back: up to a question to GDB, or to a place in the past.
+
+ghost use Rattle.std.specs.Prelude.{◌≡◌, ◌-◌, ◌<◌, [], ◌∷◌, false, true, IfOk, OnOk, None, drop, length};
+ghost use Rattle.std.specs.Prelude.{slice_index_or};
+ghost use Rattle.gdb.specs.declared.returns.Return.TheVariants.{Asks, Ends};
+ghost use Rattle.gdb.specs.Consoles.{console_from};
+ghost use Rattle.gdb.specs.Returns.{Returns, first_search, flow_at, low_of, return};
+ghost use Rattle.gdb.specs.Searches.{events_for, is_of_step};
+ghost use Rattle.gdb.specs.Turns.{ended, question, said, stop_packet};
+ghost use Rattle.gdb_past.specs.Places.{AreOfOneMachine};
+ghost use Rattle.gdb_texts.specs.Stops.{signal_of};
+ghost use Rattle.reference.specs.Run.{after};
+ghost use Rattle.reference.specs.State.{State};
+ghost use Rattle.serving.specs.Pieces.{Delivers};
+
+use crate::searches::{Found, Quest, Spot, Way, place_back};
+use crate::slices::{Plan, Points, Progress};
+use crate::turns::{QUESTION, STEPS_AT_ONCE, SentPacket, Terms, end_run, send_packet};
+use gdb_past::{Past, Position, make_steps};
+use gdb_texts::{Features, Resume, Signal, StopReason, signal_of};
+use machine::{Decider, Exceptions, KeptCode, Machine, SysTickState};
+use output::{IoError, Out};
+
+/// A search between two of its turns: what is searched for, and whether GDB has interrupted it.
+#[derive(Clone, Copy)]
+pub struct Search {
+    pub quest: Quest,
+    pub is_interrupted: bool,
+}
+
+/// How a turn of going back ends.
+#[derive(Clone, Copy)]
+pub enum Return {
+    /// GDB is asked, and the search goes on after its reply.
+    Asks(Search),
+    /// The machine is at a place of its past, and GDB was told this signal.
+    Ends(Signal),
+}
+
+/// Returns a search before its first turn, where the machine is at the tick `now`.
+pub fn first_search(way: Way, now: u64) -> Search
+    ensures { result ≡ first_search way now }
+{
+    Search {
+        quest: Quest {
+            way,
+            now,
+            end: now,
+            continues: false,
+        },
+        is_interrupted: false,
+    }
+}
+
+/// Returns the tick down to which a turn searches.
+fn low_of(features: Features, end: u64) -> u64
+    ensures { result ≡ low_of features end }
+{
+    if features.is_gdb {
+        end.saturating_sub(STEPS_AT_ONCE)
+    } else {
+        0
+    }
+}
+
+/// Returns whether a run ends for what happened in a step.
+fn is_of_step(reason: StopReason) -> bool
+    ensures { result ≡ is_of_step reason }
+{
+    match reason {
+        StopReason::Watchpoint(_, _)
+        | StopReason::Refused(_)
+        | StopReason::Fault
+        | StopReason::Entered => true,
+        StopReason::Done
+        | StopReason::Breakpoint(_)
+        | StopReason::PastBegins
+        | StopReason::StoppedBefore
+        | StopReason::Stopped(_)
+        | StopReason::Interrupted => false,
+    }
+}
+
+/// Makes the steps from a mark to a place in the past. `progress` has the events of the last one, where the run
+/// backwards ends for what happened in it.
+fn make_steps_to<D: Decider, C: KeptCode, L: Exceptions, U: SysTickState>(
+    found: Found,
+    progress: &mut Progress,
+    machine: &mut Machine<D, C, L, U>,
+)
+    requires { progress.old.events ≡ [] }
+    ensures events { progress.new
+        ≡ record progress.old { events = events_for found.reason machine.old.state found.steps } }
+    ensures state { machine.new ≡ record machine.old { state = after found.steps machine.old.state } }
+{
+    if found.steps > 0 {
+        make_steps(machine, found.steps - 1);
+        progress.repeat(machine);
+    }
+    if !is_of_step(found.reason) {
+        progress.forget();
+    }
+}
+
+/// Takes the machine to a place in its past, and forgets what was kept from later ones.
+fn arrive<D: Decider, C: KeptCode, L: Exceptions, U: SysTickState>(
+    spot: Spot,
+    past: &mut Past<L, U>,
+    progress: &mut Progress,
+    machine: &mut Machine<D, C, L, U>,
+)
+    requires number { spot.number < length past.old.marks }
+    requires fits { AreOfOneMachine past.old.start machine.old.state }
+    requires events { progress.old.events ≡ [] }
+    ensures past { past.new ≡ record past.old { marks = drop spot.number past.old.marks } }
+    ensures events { (s : State) → progress.new ≡ record progress.old {
+      events = events_for spot.found.reason (slice_index_or past.old.marks spot.number s) spot.found.steps;
+    } }
+    ensures state { (s : State) → machine.new ≡ record machine.old {
+      state = after spot.found.steps (slice_index_or past.old.marks spot.number s);
+    } }
+    ensures same { AreOfOneMachine past.old.start machine.new.state }
+{
+    past.restore(spot.number, machine);
+    make_steps_to(spot.found, progress, machine);
+    past.forget(spot.number);
+}
+
+/// Ends a run backwards: puts the lines that say why, and the stop reply.
+fn end_return<D: Decider, C: KeptCode, L: Exceptions, U: SysTickState, W: Out>(
+    reason: StopReason,
+    terms: &Terms,
+    progress: &mut Progress,
+    sent: &mut SentPacket,
+    machine: &Machine<D, C, L, U>,
+    out: &mut W,
+) -> Result<Return, IoError>
+    requires { progress.old ≡ record { made = 0; console = console_from None; events = progress.old.events } }
+    ensures delivers { Delivers (ended terms.now.settings terms.now.points.now.watchpoints terms.now.features reason
+        progress.old.events (flow_at machine.now.state)).pieces machine.now machine.now (W.writing out.old)
+        (W.writing out.new) result }
+    ensures outcome { IfOk result (λ ends. ends ≡ Ends (signal_of reason)) }
+    ensures sent { OnOk result (sent.new.items ≡ stop_packet terms.now.features reason machine.now.state) }
+{
+    let plan = Plan {
+        how: Resume::Continue,
+        limit: terms.limit,
+        settings: terms.settings,
+    };
+    let watchpoints = &terms.points.watchpoints;
+    match end_run(
+        reason,
+        &plan,
+        watchpoints,
+        terms.features,
+        progress,
+        sent,
+        machine,
+        out,
+    ) {
+        Ok(_) => Ok(Return::Ends(signal_of(reason))),
+        Err(error) => Err(error),
+    }
+}
+
+/// Asks GDB, with the machine where it was. The search goes on from the tick `low`.
+fn ask<D: Decider, C: KeptCode, L: Exceptions, U: SysTickState, W: Out>(
+    quest: Quest,
+    low: u64,
+    position: &Position<L, U>,
+    sent: &mut SentPacket,
+    machine: &mut Machine<D, C, L, U>,
+    out: &mut W,
+) -> Result<Return, IoError>
+    requires { AreOfOneMachine machine.old.state position.now }
+    ensures delivers { Delivers (said (flow_at position.now) question ∷ []) machine.old machine.new (W.writing out.old)
+        (W.writing out.new) result }
+    ensures outcome { IfOk result (λ ends. ends ≡ Asks (record {
+      quest = record quest { end = low; continues = true };
+      is_interrupted = false;
+    })) }
+    ensures sent { OnOk result (sent.new.items ≡ question) }
+    ensures state { machine.new ≡ record machine.old { state = position.now } }
+{
+    position.restore(machine);
+    match send_packet(QUESTION, sent, out) {
+        Ok(()) => {
+            let mut quest = quest;
+            quest.end = low;
+            quest.continues = true;
+            Ok(Return::Asks(Search {
+                quest,
+                is_interrupted: false,
+            }))
+        }
+        Err(error) => Err(error),
+    }
+}
+
+/// Makes the next turn of a search: goes back through at most 1,000,000 steps before GDB is asked whether its user has
+/// interrupted; a client that isn't GDB isn't asked. At the end it writes the lines that say why, and the stop reply.
+/// `position` is room for a state to go back to.
+pub fn go_back<D: Decider, C: KeptCode, L: Exceptions, U: SysTickState, W: Out>(
+    search: Search,
+    terms: &Terms,
+    past: &mut Past<L, U>,
+    position: &mut Position<L, U>,
+    sent: &mut SentPacket,
+    machine: &mut Machine<D, C, L, U>,
+    out: &mut W,
+) -> Result<Return, IoError>
+    requires past { AreOfOneMachine past.old.start machine.old.state }
+    requires fits { AreOfOneMachine position.old machine.old.state }
+    ensures returns { Returns (return terms.now.settings terms.now.points.now terms.now.features past.old search
+        machine.old.state) machine.old machine.new (W.writing out.old) (W.writing out.new) sent.new.items past.new
+        result }
+    ensures start { past.new.start ≡ past.old.start }
+    ensures fits { AreOfOneMachine position.new machine.new.state }
+    ensures same { AreOfOneMachine machine.old.state machine.new.state }
+{
+    let mut progress = Progress::new(0, None);
+    if search.is_interrupted {
+        let reason = StopReason::Interrupted;
+        return end_return(reason, terms, &mut progress, sent, machine, out);
+    }
+    position.take(machine);
+    let quest = search.quest;
+    let low = low_of(terms.features, quest.end);
+    match place_back(quest, terms.points, &terms.settings, low, past, machine) {
+        Some(spot) => {
+            arrive(spot, past, &mut progress, machine);
+            end_return(spot.found.reason, terms, &mut progress, sent, machine, out)
+        }
+        None => ask(quest, low, position, sent, machine, out),
+    }
+}

@@ -1,0 +1,293 @@
+//! Searches in the past of a machine, for the last place at which a run backwards ends.
+
+ghost use Rattle.std.specs.Prelude.{◌≡◌, ◌+◌, ◌<◌, ◌^◌, ◌&&◌, ◌||◌, if◌then◌else◌, nat_lt, IfSome, None, drop};
+ghost use Rattle.std.specs.Prelude.{length, option_map, slice_index_or};
+ghost use Rattle.gdb.specs.Reasons.{first_hit, has_entry, reason_if, reason_of_events, reason_or, watch_reason};
+ghost use Rattle.gdb.specs.Searches.{found_from, found_if, last_found, mark_found, place_back, place_of};
+ghost use Rattle.gdb.specs.Searches.{reason_of_mark, reason_of_next, reason_of_step, reason_there};
+ghost use Rattle.gdb_past.specs.Places.{AreOfOneMachine, tick_of};
+ghost use Rattle.gdb_texts.specs.declared.stops.StopReason.TheVariants.{Done};
+ghost use Rattle.reference.specs.State.{State};
+ghost use Rattle.reference.specs.Step.{step};
+
+use crate::slices::Points;
+use crate::steps::{first_hit, has_entry, reason_at_breakpoint, reason_of_events};
+use gdb_past::{Past, make_steps};
+use gdb_texts::{Settings, StopReason};
+use machine::{
+    Decider, Event, Events, Exceptions, KeptCode, Machine, SysTickState, is_instruction,
+};
+
+/// How far a run backwards goes.
+#[derive(Clone, Copy)]
+pub enum Way {
+    /// By a unit, or to a mark.
+    Step,
+    /// To the last place at which a run would have ended.
+    Continue,
+}
+
+/// What is searched for, and where.
+#[derive(Clone, Copy)]
+pub struct Quest {
+    pub way: Way,
+    /// The tick at which the run backwards began.
+    pub now: u64,
+    /// The last tick of the places that are left.
+    pub end: u64,
+    /// Whether the machine made a next step at that tick.
+    pub continues: bool,
+}
+
+/// A place in the past, by the number of steps after a mark, and why a run backwards ends there.
+#[derive(Clone, Copy)]
+pub struct Found {
+    pub steps: u64,
+    pub reason: StopReason,
+}
+
+/// A place in the past, by the number of a mark from the last one.
+#[derive(Clone, Copy)]
+pub struct Spot {
+    pub number: usize,
+    pub found: Found,
+}
+
+/// Returns why a run backwards by a unit ends at the end of a step, which was an Instruction step or not.
+fn reason_of_unit(before: bool, was_instruction: bool, events: &[Event]) -> Option<StopReason>
+    ensures { result ≡ reason_if (before && (was_instruction || has_entry events.now)) Done }
+{
+    if before && (was_instruction || has_entry(events)) {
+        Some(StopReason::Done)
+    } else {
+        None
+    }
+}
+
+/// Returns why a run backwards to a stop ends at the end of a step with these events.
+fn reason_of_stop(
+    points: &Points,
+    settings: &Settings,
+    before: bool,
+    events: &[Event],
+) -> Option<StopReason>
+    ensures { result ≡ reason_or (watch_reason (first_hit points.now.watchpoints events.now))
+        (if before then reason_of_events settings.now events.now else None) }
+{
+    if let Some(hit) = first_hit(&points.watchpoints, events) {
+        return Some(StopReason::Watchpoint(hit.kind, hit.address));
+    }
+    if before {
+        return reason_of_events(settings, events);
+    }
+    None
+}
+
+/// Makes a step. Returns why a run backwards ends at its end, if it does.
+fn make_step_back<D: Decider, C: KeptCode, L: Exceptions, U: SysTickState>(
+    way: Way,
+    points: &Points,
+    settings: &Settings,
+    before: bool,
+    events: &mut Events,
+    machine: &mut Machine<D, C, L, U>,
+) -> Option<StopReason>
+    ensures reason { result ≡ reason_of_step way points.now settings.now before machine.old.state }
+    ensures state { machine.new ≡ record machine.old { state = (step machine.old.state).state } }
+{
+    match way {
+        Way::Step => {
+            let was_instruction = is_instruction(machine.next_kind());
+            let _ = machine.step(events);
+            reason_of_unit(before, was_instruction, events.as_slice())
+        }
+        Way::Continue => {
+            let _ = machine.step(events);
+            reason_of_stop(points, settings, before, events.as_slice())
+        }
+    }
+}
+
+/// Returns why a run backwards ends before the next step.
+fn reason_of_next<D: Decider, C: KeptCode, L: Exceptions, U: SysTickState>(
+    way: Way,
+    points: &Points,
+    machine: &Machine<D, C, L, U>,
+) -> Option<StopReason>
+    ensures { result ≡ reason_of_next way points.now machine.now.state }
+{
+    match way {
+        Way::Step => None,
+        Way::Continue => reason_at_breakpoint(&points.breakpoints, machine),
+    }
+}
+
+/// Makes a step. Returns why a run backwards ends at the place that it leads to, if it does.
+fn reason_there<D: Decider, C: KeptCode, L: Exceptions, U: SysTickState>(
+    quest: Quest,
+    points: &Points,
+    settings: &Settings,
+    tick: u64,
+    events: &mut Events,
+    machine: &mut Machine<D, C, L, U>,
+) -> Option<StopReason>
+    ensures reason { result ≡ reason_there quest.way points.now settings.now (nat_lt tick quest.now)
+        (quest.continues || nat_lt tick quest.end) machine.old.state }
+    ensures state { machine.new ≡ record machine.old { state = (step machine.old.state).state } }
+{
+    let before = tick < quest.now;
+    match make_step_back(quest.way, points, settings, before, events, machine) {
+        Some(reason) => Some(reason),
+        None => {
+            if quest.continues || tick < quest.end {
+                reason_of_next(quest.way, points, machine)
+            } else {
+                None
+            }
+        }
+    }
+}
+
+/// Returns the place after some steps, where there is a reason, or else an earlier one.
+fn found_if(steps: u64, reason: Option<StopReason>, earlier: Option<Found>) -> Option<Found>
+    ensures { result ≡ found_if steps reason earlier }
+{
+    match reason {
+        Some(reason) => Some(Found { steps, reason }),
+        None => earlier,
+    }
+}
+
+/// Makes the steps from a mark, whose tick is `tick`. Returns the last place with a reason among the `count` ones after
+/// the first `low` ones.
+fn last_found<D: Decider, C: KeptCode, L: Exceptions, U: SysTickState>(
+    quest: Quest,
+    points: &Points,
+    settings: &Settings,
+    tick: u64,
+    low: u64,
+    count: u64,
+    machine: &mut Machine<D, C, L, U>,
+) -> Option<Found>
+    requires tick { tick ≡ tick_of machine.old.state }
+    requires room { tick + low + count < 2 ^ 64 }
+    ensures found { result ≡ last_found quest points.now settings.now machine.old.state low count }
+    ensures same { AreOfOneMachine machine.old.state machine.new.state }
+    ensures kept { machine.new.broken ≡ machine.old.broken }
+{
+    make_steps(machine, low);
+    let mut events = Events::new();
+    let mut found = None;
+    'steps: for step in 0..count {
+        let steps = low + step + 1;
+        let at = tick + steps;
+        let reason = reason_there(quest, points, settings, at, &mut events, machine);
+        found = found_if(steps, reason, found);
+    }
+    found
+}
+
+/// Returns why a run backwards ends at a mark, where the machine is.
+fn reason_of_mark<D: Decider, C: KeptCode, L: Exceptions, U: SysTickState>(
+    way: Way,
+    points: &Points,
+    before: bool,
+    machine: &Machine<D, C, L, U>,
+) -> Option<StopReason>
+    ensures { result ≡ reason_of_mark way points.now before machine.now.state }
+{
+    if !before {
+        return None;
+    }
+    match way {
+        Way::Step => Some(StopReason::Done),
+        Way::Continue => reason_at_breakpoint(&points.breakpoints, machine),
+    }
+}
+
+/// Returns the place of a mark, where the machine is, if a run backwards ends there.
+fn mark_found<D: Decider, C: KeptCode, L: Exceptions, U: SysTickState>(
+    quest: Quest,
+    points: &Points,
+    tick: u64,
+    machine: &Machine<D, C, L, U>,
+) -> Option<Found>
+    requires { tick ≡ tick_of machine.now.state }
+    ensures { result ≡ mark_found quest points.now machine.now.state }
+{
+    found_if(
+        0,
+        reason_of_mark(quest.way, points, tick < quest.now, machine),
+        None,
+    )
+}
+
+/// Returns the last place with a reason after a mark, where the machine is, and after the tick `low`; or the mark.
+fn found_from<D: Decider, C: KeptCode, L: Exceptions, U: SysTickState>(
+    quest: Quest,
+    points: &Points,
+    settings: &Settings,
+    tick: u64,
+    low: u64,
+    machine: &mut Machine<D, C, L, U>,
+) -> Option<Found>
+    requires { tick ≡ tick_of machine.old.state }
+    ensures found { result ≡ found_from quest points.now settings.now low machine.old.state }
+    ensures same { AreOfOneMachine machine.old.state machine.new.state }
+    ensures kept { machine.new.broken ≡ machine.old.broken }
+{
+    let mark = if low <= tick {
+        mark_found(quest, points, tick, machine)
+    } else {
+        None
+    };
+    let skipped = low.saturating_sub(tick);
+    let count = quest.end.saturating_sub(tick).saturating_sub(skipped);
+    match last_found(quest, points, settings, tick, skipped, count, machine) {
+        Some(found) => Some(found),
+        None => mark,
+    }
+}
+
+/// Searches the past down to the tick `low`. Returns the last place with a reason, or the first mark; and None where
+/// only earlier places are left.
+pub fn place_back<D: Decider, C: KeptCode, L: Exceptions, U: SysTickState>(
+    quest: Quest,
+    points: &Points,
+    settings: &Settings,
+    low: u64,
+    past: &Past<L, U>,
+    machine: &mut Machine<D, C, L, U>,
+) -> Option<Spot>
+    requires { AreOfOneMachine past.now.start machine.old.state }
+    ensures place { (s : State) → option_map (λ spot. place_of (drop spot.number past.now.marks)
+        (slice_index_or past.now.marks spot.number s) spot.found) result
+        ≡ place_back quest points.now settings.now low s past.now.marks }
+    ensures number { IfSome result (λ spot. spot.number < length past.now.marks) }
+    ensures same { AreOfOneMachine past.now.start machine.new.state }
+    ensures kept { machine.new.broken ≡ machine.old.broken }
+{
+    let mut quest = quest;
+    'marks: for number in 0..past.count() {
+        let tick = past.tick(number);
+        if tick <= quest.end {
+            past.restore(number, machine);
+            if let Some(found) = found_from(quest, points, settings, tick, low, machine) {
+                return Some(Spot { number, found });
+            }
+            if tick < low {
+                return None;
+            }
+            quest.end = tick;
+            quest.continues = false;
+        }
+    }
+    let found = Found {
+        steps: 0,
+        reason: StopReason::PastBegins,
+    };
+    Some(Spot {
+        number: past.count() - 1,
+        found,
+    })
+}

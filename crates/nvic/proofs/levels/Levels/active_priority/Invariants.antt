@@ -1,7 +1,0 @@
-use Rattle.std.proofs.Common.{◌≡◌}
-use Rattle.platform.specs.Priorities.{highest_active}
-use Rattle.nvic.proofs.levels.Levels.active_priority.Given as goal
-
--- what was found so far is the least of the exceptions that were looked at
-abbrev pub invariant-each : goal.invariant-each
-invariant-each g l = l.least ≡ highest_active (g.Self.Levels.content l.fn.self) l.number

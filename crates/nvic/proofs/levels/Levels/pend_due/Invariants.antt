@@ -1,8 +1,0 @@
-use Rattle.std.proofs.Common.{◌≡◌, ◌*◌}
-use Rattle.platform.specs.Priorities.{with_due_below}
-use Rattle.nvic.proofs.levels.Levels.pend_due.Given as goal
-
--- of the words that were looked at, those are pending that are due
-abbrev pub invariant-words : goal.invariant-words
-invariant-words g l =
-    g.Self.Levels.content l.self ≡ with_due_below (g.Self.Levels.content l.fn.self) l.due (l.word * 32)
