@@ -19,4 +19,4 @@ pub use subcommands::{
     DebugOptions, GdbOptions, ReportOptions, RunOptions, Subcommand, TasksOptions,
 };
 pub use texts::AFTER_DEBUG;
-pub use words::{WordsError, subcommand_of};
+pub use words::{ArgsError, subcommand_of};

@@ -3,7 +3,7 @@ use Rattle.std.proofs.Common.{◌≡◌, ℕ, suc, ◌+◌, ◌<◌, Bool, true,
 use Rattle.std.proofs.Common.{slice_set, slice_index, slice_index_or}
 use Rattle.std.proofs.Common.{Some, None, refl, ap, arith, subst}
 use Rattle.devices.specs.Devices.{DeviceWords, Word, poked, position_from, with_content, word_at}
-use Rattle.devices.specs.Laws.{have}
+use Rattle.devices.specs.Laws.{has_device_at}
 use Rattle.devices.specs.Table.{has, place}
 
 -- where there is none, nothing is poked
@@ -30,28 +30,28 @@ pub none_word : (ds : List DeviceWords) (a : ℕ) → position_from 0 ds a ≡ N
 none_word ds a e = none_word_from 0 ds a e
 
 -- a number is found where a device has the address
-none_have_from : (k : ℕ) (ds : List DeviceWords) (a : ℕ) → position_from k ds a ≡ None → have ds a ≡ false
+none_have_from : (k : ℕ) (ds : List DeviceWords) (a : ℕ) → position_from k ds a ≡ None → has_device_at ds a ≡ false
 none_have_from k [] a e = refl
 none_have_from k (d ∷ ds) a e = by_has (has d.device a) refl (none_have_from (suc k) ds a)
   where
-    by_has : (b : Bool) → has d.device a ≡ b → (position_from (suc k) ds a ≡ None → have ds a ≡ false) →
-        have (d ∷ ds) a ≡ false
+    by_has : (b : Bool) → has d.device a ≡ b → (position_from (suc k) ds a ≡ None → has_device_at ds a ≡ false) →
+        has_device_at (d ∷ ds) a ≡ false
     by_has true h rest = absurd cc (rw h at e)
     by_has false h rest = rw h (rest (rw h at e))
 
-pub none_have : (ds : List DeviceWords) (a : ℕ) → position_from 0 ds a ≡ None → have ds a ≡ false
+pub none_have : (ds : List DeviceWords) (a : ℕ) → position_from 0 ds a ≡ None → has_device_at ds a ≡ false
 none_have ds a e = none_have_from 0 ds a e
 
-first_has_from : (k : ℕ) (ds : List DeviceWords) (a j : ℕ) → position_from k ds a ≡ Some j → have ds a ≡ true
+first_has_from : (k : ℕ) (ds : List DeviceWords) (a j : ℕ) → position_from k ds a ≡ Some j → has_device_at ds a ≡ true
 first_has_from k [] a j e = absurd cc
 first_has_from k (d ∷ ds) a j e = by_has (has d.device a) refl (first_has_from (suc k) ds a j)
   where
-    by_has : (b : Bool) → has d.device a ≡ b → (position_from (suc k) ds a ≡ Some j → have ds a ≡ true) →
-        have (d ∷ ds) a ≡ true
+    by_has : (b : Bool) → has d.device a ≡ b → (position_from (suc k) ds a ≡ Some j → has_device_at ds a ≡ true) →
+        has_device_at (d ∷ ds) a ≡ true
     by_has true h rest = rw h refl
     by_has false h rest = rw h (rest (rw h at e))
 
-pub first_has : (ds : List DeviceWords) (a j : ℕ) → position_from 0 ds a ≡ Some j → have ds a ≡ true
+pub first_has : (ds : List DeviceWords) (a j : ℕ) → position_from 0 ds a ≡ Some j → has_device_at ds a ≡ true
 first_has ds a j e = first_has_from 0 ds a j e
 
 -- the word at an address in a device

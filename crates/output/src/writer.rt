@@ -2,7 +2,7 @@
 
 ghost use Rattle.std.specs.Prelude.{◌≡◌, ◌<◌, true, [], ◌∷◌, OnErr};
 ghost use Rattle.output.specs.Input.{Reading, Received};
-ghost use Rattle.output.specs.Output.{HandsOn, Put, Took, Writing};
+ghost use Rattle.output.specs.Output.{FlushesAll, Put, Took, Writing};
 ghost use Rattle.platform.specs.Events.{line};
 
 use platform::event::Event;
@@ -82,7 +82,7 @@ pub trait Out {
 
     /// Sends the bytes that wait. On an error some of them may still wait.
     fn flush_all(&mut self) -> Result<(), IoError>
-        ensures { HandsOn (writing self.old) (writing self.new) result };
+        ensures { FlushesAll (writing self.old) (writing self.new) result };
 }
 
 /// A reader that reports how many bytes it returned. A contract sees the bytes that it has left,
