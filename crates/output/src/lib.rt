@@ -19,4 +19,4 @@ pub use paged::Paged;
 pub use view::{
     AllEvents, ConsoleBytes, ExceptionEvents, FaultySteps, NoEvents, RefusedEvents, View,
 };
-pub use writer::{In, IoError, LineRoom, Out, Over};
+pub use writer::{In, IoError, LineRoom, Out, Over, STEP_ROOM};
