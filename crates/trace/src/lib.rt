@@ -3,7 +3,7 @@
 
 pub mod digits;
 mod head;
-mod hex;
+pub mod hex;
 mod line_end;
 pub mod lines;
 pub mod page;
