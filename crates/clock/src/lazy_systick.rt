@@ -52,6 +52,14 @@ impl SysTickState for LazySysTick {
         now + 1 < self.due
     }
 
+    #[inline(always)]
+    fn quiet_until(&self) -> u64 {
+        if self.due == 0 { 0 } else { self.due - 1 }
+    }
+
+    #[inline(always)]
+    fn pass(&mut self, _now: u64) {}
+
     fn systick(&self, now: u64) -> SysTick {
         self.stored.after_ticks(now - self.since)
     }

@@ -6,7 +6,9 @@ ghost use Rattle.output.specs.Input.{Received};
 ghost use Rattle.output.specs.Output.{Took};
 ghost use Rattle.output.specs.declared.cut.AtCut.TheVariants.{Fails, TakesNone};
 
-use crate::writer::{In, IoError, Out};
+use crate::writer::{In, IoError, LineRoom, Out};
+use platform::event::Event;
+use trace::fetch_end::FetchEnd;
 
 /// What a call does after the last byte.
 #[derive(Clone, Copy)]
@@ -88,6 +90,17 @@ impl<O: Out + Drop> Cut<O> {
 }
 
 impl<O: Out + Drop> Out for Cut<O> {
+    ghost room = { λ _. 0 };
+
+    #[inline(always)]
+    fn put_fetch(&mut self, _line_room: &mut LineRoom, _tick: u64, _address: &[u8; 8], _end: &FetchEnd) {}
+
+    #[inline(always)]
+    fn put_byte_within(&mut self, _byte: u8) {}
+
+    #[inline(always)]
+    fn put_within(&mut self, _line_room: &mut LineRoom, _event: &Event) {}
+
     ghost writing = { λ c. with_errors c.failed (O.writing c.inner) };
 
     fn put(&mut self, bytes: &[u8]) -> Result<usize, IoError>

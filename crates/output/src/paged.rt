@@ -7,13 +7,17 @@ ghost use Rattle.std.specs.Io.KnownBytes.{append_known, Keeps};
 
 use crate::writer::{IoError, LineRoom, Out};
 use platform::event::Event;
+use trace::fetch_end::FetchEnd;
 use trace::page::Page;
 
 /// How many bytes are gathered at most.
 const ROOM: usize = 0x4000;
 
-/// The most bytes on a page that leave room for a line.
-const FULL: usize = ROOM - 64;
+/// Room for the lines of a step.
+const STEP_ROOM: usize = 0xB00;
+
+/// The most bytes on a page that leave room for the lines of a step.
+const FULL: usize = ROOM - STEP_ROOM;
 
 /// A writer that gathers lines on a page. Bytes on the page count as taken: `flush` sends them at
 /// the end, and `flush_all` wherever a caller wants it. Where the writer below fails, the line being put
@@ -95,6 +99,28 @@ impl<O: Out + Drop> Paged<O> {
 }
 
 impl<O: Out + Drop> Out for Paged<O> {
+    ghost room = { λ p. 0x4000 - length p.page };
+
+    #[inline(always)]
+    fn has_room(&self) -> bool {
+        self.page.len() <= FULL
+    }
+
+    #[inline(always)]
+    fn put_fetch(&mut self, line_room: &mut LineRoom, tick: u64, address: &[u8; 8], end: &FetchEnd) {
+        self.page.put_fetch(&mut line_room.digits, tick, address, end);
+    }
+
+    #[inline(always)]
+    fn put_byte_within(&mut self, byte: u8) {
+        self.page.put(&[byte]);
+    }
+
+    #[inline(always)]
+    fn put_within(&mut self, line_room: &mut LineRoom, event: &Event) {
+        self.page.put_event(&mut line_room.digits, event);
+    }
+
     ghost writing = { λ p. with_page (drop p.at p.page) (O.writing p.inner) };
 
     fn put(&mut self, bytes: &[u8]) -> Result<usize, IoError> {

@@ -1,8 +1,11 @@
 //! Writers that report what they took, and readers that report what they returned.
 
-ghost use Rattle.std.specs.Prelude.{◌≡◌, ◌<◌, true, [], ◌∷◌, OnErr};
+ghost use Rattle.std.specs.Prelude.{◌≡◌, ◌<◌, ◌≤◌, ◌+◌, ℕ, true, [], ◌∷◌, None, OnErr};
+ghost use Rattle.platform.specs.Text.{hex_word};
+ghost use Rattle.reference.specs.Accesses.{accessed};
+ghost use Rattle.reference.specs.LoadStore.{fetch_at};
 ghost use Rattle.output.specs.Input.{Reading, Received};
-ghost use Rattle.output.specs.Output.{HandsOn, Put, Took, Writing};
+ghost use Rattle.output.specs.Output.{HandsOn, Put, Took, WritesAll, Writing};
 ghost use Rattle.platform.specs.Events.{line};
 
 use platform::event::Event;
@@ -11,6 +14,7 @@ use std::marker::Model;
 use std::sync::ledger::{Blank, Book, Ledger, Share};
 use thiserror::Error;
 use trace::digits::LineDigits;
+use trace::fetch_end::FetchEnd;
 use trace::lines::LinePage;
 
 /// Room for the text of one line, and its digits, which are kept for later ones.
@@ -40,6 +44,36 @@ pub struct IoError;
 /// which of the bytes wait to be sent.
 pub trait Out {
     ghost writing: { Self → Writing };
+
+    /// How many bytes there is room for, whatever becomes of the writer below.
+    ghost room: { Self → ℕ };
+
+    /// Returns whether there is room for the lines of any one step.
+    #[inline(always)]
+    fn has_room(&self) -> bool
+        ensures { result ≡ true → 0xB00 ≤ room self.now }
+    {
+        false
+    }
+
+    /// Puts the line of a fetch that was done, for which there is room. `line_room` has the digits that are kept.
+    fn put_fetch(&mut self, line_room: &mut LineRoom, tick: u64, address: &[u8; 8], end: &FetchEnd)
+        requires { 64 ≤ room self.old }
+        ensures put { (at : ℕ) → address.now ≡ hex_word at → WritesAll (writing self.old) (writing self.new)
+            (line (accessed tick (fetch_at at end.now.privileged) end.now.rule None)) }
+        ensures room { room self.old ≤ room self.new + 64 };
+
+    /// Puts the line of an event, for which there is room.
+    fn put_within(&mut self, line_room: &mut LineRoom, event: &Event)
+        requires { 64 ≤ room self.old }
+        ensures put { WritesAll (writing self.old) (writing self.new) (line event.now) }
+        ensures room { room self.old ≤ room self.new + 64 };
+
+    /// Puts a byte, for which there is room.
+    fn put_byte_within(&mut self, byte: u8)
+        requires { 64 ≤ room self.old }
+        ensures put { WritesAll (writing self.old) (writing self.new) (byte ∷ []) }
+        ensures room { room self.old ≤ room self.new + 64 };
 
     /// Takes a prefix of the bytes, and returns its length.
     fn put(&mut self, bytes: &[u8]) -> Result<usize, IoError>
@@ -140,6 +174,17 @@ impl<T: Drop, K: Ledger> Over<T, K> {
 }
 
 impl<W: Write + Drop, K: Ledger> Out for Over<W, K> {
+    ghost room = { λ _. 0 };
+
+    #[inline(always)]
+    fn put_fetch(&mut self, _line_room: &mut LineRoom, _tick: u64, _address: &[u8; 8], _end: &FetchEnd) {}
+
+    #[inline(always)]
+    fn put_byte_within(&mut self, _byte: u8) {}
+
+    #[inline(always)]
+    fn put_within(&mut self, _line_room: &mut LineRoom, _event: &Event) {}
+
     ghost writing = { λ o. record { written = W.contents o.inner; errors = o.book.total; waits = [] } };
 
     fn put(&mut self, bytes: &[u8]) -> Result<usize, IoError> {

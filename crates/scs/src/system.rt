@@ -12,6 +12,7 @@ ghost use Rattle.platform.specs.Outcomes.{IsOf, LeavesUnlessDone};
 ghost use Rattle.platform.specs.System.{reset_system, after_tick, deactivated, after_read, register_written};
 ghost use Rattle.platform.specs.System.{register_access, system_access, with_nvic, mpu_written};
 ghost use Rattle.platform.specs.System as spec;
+ghost use Rattle.platform.specs.Time.{due_of, passed};
 ghost use Rattle.platform.specs.Interrupts as nvic;
 ghost use Rattle.platform.specs.Regions as mpu;
 ghost use Rattle.platform.specs.Regions.{is_on, shown};
@@ -166,6 +167,25 @@ impl<D: Decider, L: Exceptions, U: SysTickState> System<D, L, U> {
         ensures same { result ≡ false → self.new ≡ self.old }
     {
         self.clock.tick_quietly()
+    }
+
+    /// Returns for how many ticks from now on nothing is due; 0 if that isn't known.
+    #[inline]
+    pub fn quiet_ticks(&self) -> u64
+        ensures { 0 < result → self.now.time.ticks + result < due_of self.now.time }
+    {
+        self.clock.quiet_ticks()
+    }
+
+    /// Makes the next tick, at which nothing is due.
+    #[inline(always)]
+    #[tactic(auto, using(nvic::proofs::Due::nothing_is_pended), unfolding(platform::specs::System::after_tick))]
+    pub fn pass(&mut self)
+        requires { self.old.time.ticks + 1 < due_of self.old.time }
+        ensures tick { self.new ≡ after_tick self.old }
+        ensures time { self.new ≡ record self.old { time = passed self.old.time } }
+    {
+        self.clock.pass();
     }
 
     /// Makes the next tick, makes pending what is due at it, and then pokes words of devices, after which their lines

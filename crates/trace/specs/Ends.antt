@@ -3,11 +3,15 @@ use Rattle.std.specs.Prelude.{ℕ, zero, suc, ◌==◌, Bool, true, List, ◌++�
 use Rattle.platform.specs.declared.access.Rule.{Rule}
 use Rattle.platform.specs.declared.access.Rule.TheVariants.{NeverExecute, VectorRead, PrivatePeripheralBus, MpuOff}
 use Rattle.platform.specs.declared.access.Rule.TheVariants.{NegativePriority, Region, Background, NoRegion}
-use Rattle.platform.specs.Text.{line_feed, rule_text}
+use Rattle.platform.specs.Text.{line_feed, privilege_text, rule_text}
 
 -- from the space before the outcome on
 abbrev pub end_text : Rule → List ℕ
 end_text rule = codes " ok " ++ (rule_text rule ++ line_feed)
+
+-- the line of a fetch that was done, after its address
+abbrev pub fetch_end : Bool → Rule → List ℕ
+fetch_end privileged rule = codes " 2 " ++ (privilege_text privileged ++ end_text rule)
 
 -- the rule of a rank; that of a region has the number
 abbrev pub rule_of : ℕ → ℕ → Rule

@@ -3,7 +3,8 @@
 
 pub mod digits;
 mod head;
-mod hex;
+pub mod hex;
+pub mod fetch_end;
 mod line_end;
 pub mod lines;
 pub mod page;

@@ -71,7 +71,7 @@ impl LineEnd {
 /// Returns the end of the line of an access that was done, and its length; None if it is longer than 8 bytes. Regions
 /// of the MPU have numbers below 16.
 #[tactic(auto, using(std::proofs::lemmas::Fmt::decimal_digit, crate::proofs::Ticks::from_ten))]
-fn end_of(rule: Rule) -> Option<([u8; 8], usize)>
+pub(crate) fn end_of(rule: Rule) -> Option<([u8; 8], usize)>
     ensures few { IfSome result (λ e. e.1 ≤ 8) }
     ensures text { IfSome result (λ e. take e.1 e.0 ≡ end_text rule) }
 {

@@ -1,14 +1,18 @@
 //! The lines of events and of stops.
 
-ghost use Rattle.std.specs.Prelude.{◌≡◌, ◌+◌, ◌≤◌, ◌++◌, length, codes, decimal};
+ghost use Rattle.std.specs.Prelude.{◌≡◌, ◌+◌, ◌≤◌, ◌++◌, ℕ, None, length, codes, decimal};
 ghost use Rattle.platform.specs.declared.event.EventKind.TheVariants.{Accessed, ConsoleByte, ReturnBegan};
 ghost use Rattle.platform.specs.declared.event.EventKind.TheVariants.{HandlerEntered, FaultRecorded};
 ghost use Rattle.platform.specs.Events.{line};
+ghost use Rattle.platform.specs.Text.{hex_word};
+ghost use Rattle.reference.specs.Accesses.{accessed};
+ghost use Rattle.reference.specs.LoadStore.{fetch_at};
 ghost use Rattle.platform.specs.Text as spec;
 ghost use Rattle.platform.specs.Text.{stop_text, outcome_text, rule_text, line_feed};
 ghost use Rattle.trace.specs.Tails.{access_head, head_text, tail};
 
 use crate::digits::{KeptParts, LineDigits};
+use crate::fetch_end::FetchEnd;
 use crate::head::AccessHead;
 use crate::hex;
 use crate::page::Page;
@@ -62,6 +66,37 @@ impl<const ROOM: usize> Page<ROOM> {
             EventKind::Accessed(access) => self.put_access(digits, event.tick, access),
             what => self.put_any(&mut digits.tick, event.tick, *what),
         }
+    }
+
+    /// Appends the line of a fetch that was done, from the digits of its address and its end.
+    #[inline(always)]
+    pub fn put_fetch(&mut self, digits: &mut LineDigits, tick: u64, address: &[u8; 8], end: &FetchEnd)
+        requires room { length self.old + 64 ≤ ROOM }
+        ensures text { (at : ℕ) → address.now ≡ hex_word at → self.new ≡ self.old
+            ++ line (accessed tick (fetch_at at end.now.privileged) end.now.rule None) }
+        ensures short { length self.new ≤ length self.old + 64 }
+    {
+        if digits.tick.hold(tick) {
+            let address = *address;
+            let text = end.text;
+            let count = end.count;
+            digits.tick.put_held(tick, self);
+            self.put_some(b" F 0", 3);
+            self.put(&address);
+            self.put_some(&text, count);
+        } else {
+            self.put_late_fetch(tick, address, end);
+        }
+    }
+
+    /// Appends the same for a tick of more than 17 digits.
+    #[cold]
+    #[inline(never)]
+    fn put_late_fetch(&mut self, tick: u64, address: &[u8; 8], end: &FetchEnd) {
+        self.put_decimal(tick);
+        self.put(b" F ");
+        self.put(address);
+        self.put_some(&end.text, end.count);
     }
 
     /// Appends the line of a stop.

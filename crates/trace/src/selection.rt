@@ -42,6 +42,19 @@ impl TraceSelection {
         }
     }
 
+    /// Returns whether lines of accesses that were done are written.
+    #[inline(always)]
+    pub fn has_done_accesses(self) -> bool {
+        match self {
+            TraceSelection::All => true,
+            TraceSelection::Refused
+            | TraceSelection::Faults
+            | TraceSelection::Exceptions
+            | TraceSelection::Console
+            | TraceSelection::Nothing => false,
+        }
+    }
+
     /// Returns whether each event of a step is written in which an access was refused or a fault was recorded.
     #[inline(always)]
     pub fn has_faulty_steps(self) -> bool
