@@ -2,6 +2,7 @@
 #![tactic(auto)]
 
 mod at_once;
+mod data_at_once;
 pub mod foresight;
 mod keeping;
 pub mod laws;

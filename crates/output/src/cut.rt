@@ -8,7 +8,7 @@ ghost use Rattle.output.specs.declared.cut.AtCut.TheVariants.{Fails, TakesNone};
 
 use crate::writer::{In, IoError, LineRoom, Out};
 use platform::event::Event;
-use trace::fetch_end::FetchEnd;
+use trace::line_end::FetchEnd;
 
 /// What a call does after the last byte.
 #[derive(Clone, Copy)]

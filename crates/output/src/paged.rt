@@ -7,7 +7,7 @@ ghost use Rattle.std.specs.Io.KnownBytes.{append_known, Keeps};
 
 use crate::writer::{IoError, LineRoom, Out};
 use platform::event::Event;
-use trace::fetch_end::FetchEnd;
+use trace::line_end::FetchEnd;
 use trace::page::Page;
 
 /// How many bytes are gathered at most.

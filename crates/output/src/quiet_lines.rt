@@ -9,7 +9,7 @@ use crate::view::View;
 use crate::writer::{LineRoom, Out};
 use platform::event::Event;
 use std::marker::PhantomData;
-use trace::fetch_end::FetchEnd;
+use trace::line_end::FetchEnd;
 use trace::sink::Sink;
 
 /// Writes the text of one step's events that are of the kinds that a view has, of each as it comes, where there is room

@@ -14,7 +14,7 @@ use std::marker::Model;
 use std::sync::ledger::{Blank, Book, Ledger, Share};
 use thiserror::Error;
 use trace::digits::LineDigits;
-use trace::fetch_end::FetchEnd;
+use trace::line_end::FetchEnd;
 use trace::lines::LinePage;
 
 /// Room for the text of one line, and its digits, which are kept for later ones.
