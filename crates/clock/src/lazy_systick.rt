@@ -54,10 +54,11 @@ impl SysTickState for LazySysTick {
 
     #[inline(always)]
     fn quiet_until(&self) -> u64 {
-        if self.due == 0 { 0 } else { self.due - 1 }
+        self.due.saturating_sub(1)
     }
 
     #[inline(always)]
+    #[tactic(auto, using(crate::proofs::Counts::after_tick_since))]
     fn pass(&mut self, _now: u64) {}
 
     fn systick(&self, now: u64) -> SysTick {

@@ -1,8 +1,8 @@
 //! How a clock counts: on each tick, or only where something is due.
 
-ghost use Rattle.std.specs.Prelude.{◌≡◌, ℕ, ◌+◌, ◌^◌, ◌<◌, ◌≤◌, Option, None, true, IfSome, false};
+ghost use Rattle.std.specs.Prelude.{◌≡◌, ℕ, ◌+◌, ◌-◌, ◌^◌, ◌<◌, ◌≤◌, Option, None, true, false, IfSome};
 ghost use Rattle.clock.specs.DueTick.{is_before};
-ghost use Rattle.platform.specs.Time.{SysTick as Timer, counted, next_current, next_due, reaches_zero, reset_systick};
+ghost use Rattle.platform.specs.Time.{SysTick as Timer, counted, next_current, next_due, reset_systick, reaches_zero};
 
 use crate::timer::SysTick;
 use std::marker::Model;
@@ -36,11 +36,12 @@ pub trait SysTickState: Drop {
         ensures passes { result ≡ true → systick_at self.now (now + 1)
             ≡ record (systick_at self.now now) { current = next_current (systick_at self.now now) } };
 
-    /// Returns the last tick before the one that is kept as due; 0 if none is kept.
+    /// Returns a tick before the due tick, the last of them; 0 if no due tick is kept.
     fn quiet_until(&self) -> u64
-        ensures { 0 < result → is_before result (due self.now) ≡ true };
+        ensures before { 0 < result → is_before result (due self.now) ≡ true }
+        ensures last { IfSome (due self.now) (λ tick. result ≡ tick - 1) };
 
-    /// A tick goes by at which nothing is due.
+    /// Makes the next tick, at which nothing is due.
     fn pass(&mut self, now: u64)
         requires known { since self.old ≤ now }
         requires bounded { now < 2 ^ 48 }

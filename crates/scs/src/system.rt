@@ -21,6 +21,7 @@ ghost use Rattle.platform.specs.Rules.{decision_of, is_off_below_zero};
 ghost use Rattle.platform.specs.SpecialRegisters.{with_special, with_mask};
 ghost use Rattle.platform.specs.SpecialRegisters as special;
 ghost use Rattle.platform.specs.Status.{with_fault_bits, with_mmfar, with_bfar};
+ghost use Rattle.platform.specs.Time.{due_of, passed};
 ghost use Rattle.scs.specs.Writes.{after_write, answered};
 
 use crate::addresses::{first_byte, has_width, in_place, part_of, register_at};
@@ -179,7 +180,7 @@ impl<D: Decider, L: Exceptions, U: SysTickState> System<D, L, U> {
 
     /// Makes the next tick, at which nothing is due.
     #[inline(always)]
-    #[tactic(auto, using(nvic::proofs::Due::nothing_is_pended), unfolding(platform::specs::System::after_tick))]
+    #[tactic(auto, using(crate::proofs::Passing::only_time_passes))]
     pub fn pass(&mut self)
         requires { self.old.time.ticks + 1 < due_of self.old.time }
         ensures tick { self.new ≡ after_tick self.old }
