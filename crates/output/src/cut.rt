@@ -1,6 +1,6 @@
 //! A writer or a reader that is cut after a number of bytes, for tests of what a failure leaves.
 
-ghost use Rattle.std.specs.Prelude.{◌≡◌, ◌-◌, ◌^◌, ◌<◌, length};
+ghost use Rattle.std.specs.Prelude.{◌≡◌, ◌-◌, ◌^◌, ◌<◌, false, length};
 ghost use Rattle.output.specs.Cuts.{EndsAtCut, CountsCall, cut_off, with_errors, with_misses};
 ghost use Rattle.output.specs.Input.{Received};
 ghost use Rattle.output.specs.Output.{Took};
@@ -103,6 +103,10 @@ impl<O: Out + Drop> Out for Cut<O> {
 
     ghost writing = { λ c. with_errors c.failed (O.writing c.inner) };
 
+    ghost gathers = { false };
+
+    ghost room = { λ _. 0 };
+
     fn put(&mut self, bytes: &[u8]) -> Result<usize, IoError>
         ensures took { Took (with_errors self.old.failed (O.writing self.old.inner))
             (with_errors self.new.failed (O.writing self.new.inner)) bytes.now result }
@@ -126,6 +130,17 @@ impl<O: Out + Drop> Out for Cut<O> {
             AtCut::TakesNone => Ok(0),
         }
     }
+
+    fn put_fetch(
+        &mut self,
+        _line_room: &mut LineRoom,
+        _tick: u64,
+        _address: &[u8; 8],
+        _end: &FetchEnd,
+    ) {
+    }
+
+    fn put_within(&mut self, _line_room: &mut LineRoom, _event: &Event) {}
 
     fn flush_all(&mut self) -> Result<(), IoError> {
         self.inner.flush_all()

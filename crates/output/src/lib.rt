@@ -21,4 +21,4 @@ pub use quiet_lines::QuietLines;
 pub use view::{
     AllEvents, ConsoleBytes, ExceptionEvents, FaultySteps, NoEvents, RefusedEvents, View,
 };
-pub use writer::{In, IoError, LineRoom, Out, Over};
+pub use writer::{In, IoError, LineRoom, Out, Over, STEP_ROOM};

@@ -1,12 +1,12 @@
 //! Writers that report what they took, and readers that report what they returned.
 
-ghost use Rattle.std.specs.Prelude.{◌≡◌, ◌<◌, ◌≤◌, ◌+◌, ℕ, true, [], ◌∷◌, None, OnErr};
-ghost use Rattle.platform.specs.Text.{hex_word};
-ghost use Rattle.reference.specs.Accesses.{accessed};
-ghost use Rattle.reference.specs.LoadStore.{fetch_at};
+ghost use Rattle.std.specs.Prelude.{◌≡◌, ℕ, ◌+◌, ◌<◌, ◌≤◌, Bool, true, false, [], ◌∷◌, None, OnErr};
 ghost use Rattle.output.specs.Input.{Reading, Received};
 ghost use Rattle.output.specs.Output.{HandsOn, Put, Took, WritesAll, Writing};
 ghost use Rattle.platform.specs.Events.{line};
+ghost use Rattle.platform.specs.Text.{hex_word};
+ghost use Rattle.reference.specs.Accesses.{accessed};
+ghost use Rattle.reference.specs.LoadStore.{fetch_at};
 
 use platform::event::Event;
 use std::io::{Read, Write};
@@ -39,41 +39,21 @@ impl LineRoom {
 #[error("the writer or the reader failed")]
 pub struct IoError;
 
+/// Room for 20 lines of at most 64 bytes. A step of an instruction whose accesses are done has at most 18 lines: two of
+/// fetches, and 16 of other accesses.
+pub const STEP_ROOM: usize = 0x500;
+
 /// A writer that reports how many of the bytes it took. A contract sees the bytes that it has
 /// taken, where they are known, how many calls failed or took 0 bytes of a nonempty piece, and
-/// which of the bytes wait to be sent.
+/// which of the bytes wait to be sent; and, of a writer that gathers lines, for how many bytes it has room.
 pub trait Out {
     ghost writing: { Self → Writing };
 
+    /// Whether it gathers lines, so that some can be put with no call of a writer below.
+    ghost gathers: { Bool };
+
     /// How many bytes there is room for, whatever becomes of the writer below.
     ghost room: { Self → ℕ };
-
-    /// Returns whether there is room for the lines of any one step.
-    #[inline(always)]
-    fn has_room(&self) -> bool
-        ensures { result ≡ true → 0xB00 ≤ room self.now }
-    {
-        false
-    }
-
-    /// Puts the line of a fetch that was done, for which there is room. `line_room` has the digits that are kept.
-    fn put_fetch(&mut self, line_room: &mut LineRoom, tick: u64, address: &[u8; 8], end: &FetchEnd)
-        requires { 64 ≤ room self.old }
-        ensures put { (at : ℕ) → address.now ≡ hex_word at → WritesAll (writing self.old) (writing self.new)
-            (line (accessed tick (fetch_at at end.now.privileged) end.now.rule None)) }
-        ensures room { room self.old ≤ room self.new + 64 };
-
-    /// Puts the line of an event, for which there is room.
-    fn put_within(&mut self, line_room: &mut LineRoom, event: &Event)
-        requires { 64 ≤ room self.old }
-        ensures put { WritesAll (writing self.old) (writing self.new) (line event.now) }
-        ensures room { room self.old ≤ room self.new + 64 };
-
-    /// Puts a byte, for which there is room.
-    fn put_byte_within(&mut self, byte: u8)
-        requires { 64 ≤ room self.old }
-        ensures put { WritesAll (writing self.old) (writing self.new) (byte ∷ []) }
-        ensures room { room self.old ≤ room self.new + 64 };
 
     /// Takes a prefix of the bytes, and returns its length.
     fn put(&mut self, bytes: &[u8]) -> Result<usize, IoError>
@@ -113,6 +93,28 @@ pub trait Out {
         let text = room.page.as_slice();
         self.put_all(text)
     }
+
+    /// Returns whether there is room for the lines of any step.
+    #[inline(always)]
+    fn has_room(&self) -> bool
+        ensures { result ≡ true → (gathers ≡ true) × (STEP_ROOM ≤ room self.now) }
+    {
+        false
+    }
+
+    /// Puts the line of a fetch that was done, for which there is room. `line_room` has the digits that are kept.
+    fn put_fetch(&mut self, line_room: &mut LineRoom, tick: u64, address: &[u8; 8], end: &FetchEnd)
+        requires { gathers ≡ true → 64 ≤ room self.old }
+        ensures put { gathers ≡ true → (at : ℕ) → address.now ≡ hex_word at
+            → WritesAll (writing self.old) (writing self.new)
+            (line (accessed tick (fetch_at at end.now.privileged) end.now.rule None)) }
+        ensures room { room self.old ≤ room self.new + 64 };
+
+    /// Puts the line of an event, for which there is room.
+    fn put_within(&mut self, line_room: &mut LineRoom, event: &Event)
+        requires { gathers ≡ true → 64 ≤ room self.old }
+        ensures put { gathers ≡ true → WritesAll (writing self.old) (writing self.new) (line event.now) }
+        ensures room { room self.old ≤ room self.new + 64 };
 
     /// Sends the bytes that wait. On an error some of them may still wait.
     fn flush_all(&mut self) -> Result<(), IoError>
@@ -187,6 +189,10 @@ impl<W: Write + Drop, K: Ledger> Out for Over<W, K> {
 
     ghost writing = { λ o. record { written = W.contents o.inner; errors = o.book.total; waits = [] } };
 
+    ghost gathers = { false };
+
+    ghost room = { λ _. 0 };
+
     fn put(&mut self, bytes: &[u8]) -> Result<usize, IoError> {
         match self.inner.write(bytes) {
             Ok(0) if !bytes.is_empty() => {
@@ -200,6 +206,17 @@ impl<W: Write + Drop, K: Ledger> Out for Over<W, K> {
             }
         }
     }
+
+    fn put_fetch(
+        &mut self,
+        _line_room: &mut LineRoom,
+        _tick: u64,
+        _address: &[u8; 8],
+        _end: &FetchEnd,
+    ) {
+    }
+
+    fn put_within(&mut self, _line_room: &mut LineRoom, _event: &Event) {}
 
     fn flush_all(&mut self) -> Result<(), IoError> {
         Ok(())

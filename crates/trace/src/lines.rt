@@ -85,8 +85,10 @@ impl<const ROOM: usize> Page<ROOM> {
         ensures short { length self.new ≤ length self.old + 64 }
     {
         if digits.tick.hold(tick) {
+            let address = *address;
+            let end = *end;
             digits.tick.put_held(tick, self);
-            self.put_after_tick(address, end);
+            self.put_after_tick(&address, &end);
         } else {
             self.put_late_fetch(tick, address, end);
         }
