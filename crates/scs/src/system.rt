@@ -12,7 +12,6 @@ ghost use Rattle.platform.specs.Outcomes.{IsOf, LeavesUnlessDone};
 ghost use Rattle.platform.specs.System.{reset_system, after_tick, deactivated, after_read, register_written};
 ghost use Rattle.platform.specs.System.{register_access, system_access, with_nvic, mpu_written};
 ghost use Rattle.platform.specs.System as spec;
-ghost use Rattle.platform.specs.Time.{due_of, passed};
 ghost use Rattle.platform.specs.Interrupts as nvic;
 ghost use Rattle.platform.specs.Regions as mpu;
 ghost use Rattle.platform.specs.Regions.{is_on, shown};
