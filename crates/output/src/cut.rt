@@ -137,8 +137,7 @@ impl<O: Out + Drop> Out for Cut<O> {
         _tick: u64,
         _address: &[u8; 8],
         _end: &FetchEnd,
-    ) {
-    }
+    ) {}
 
     fn put_within(&mut self, _line_room: &mut LineRoom, _event: &Event) {}
 

@@ -54,8 +54,8 @@ impl<O: Out + Drop> Paged<O> {
         inner
     }
 
-    /// Sends the page to the writer below unless it has room for the lines of a step. On an error a prefix of the page was
-    /// sent, and the page still has the rest.
+    /// Sends the page to the writer below unless it has room for the lines of a step. On an error a prefix of the page
+    /// was sent, and the page still has the rest.
     #[inline(always)]
     fn make_room(&mut self) -> Result<(), IoError>
         ensures known { Keeps (append_known (O.writing self.old.inner).written (drop self.old.at self.old.page))
@@ -148,10 +148,10 @@ impl<O: Out + Drop> Out for Paged<O> {
     }
 
     #[inline(always)]
-    fn put_line(&mut self, room: &mut LineRoom, event: &Event) -> Result<(), IoError> {
+    fn put_line(&mut self, line_room: &mut LineRoom, event: &Event) -> Result<(), IoError> {
         match self.make_room() {
             Ok(()) => {
-                self.page.put_event(&mut room.digits, event);
+                self.page.put_event(&mut line_room.digits, event);
                 Ok(())
             }
             Err(error) => Err(error),
@@ -164,8 +164,15 @@ impl<O: Out + Drop> Out for Paged<O> {
     }
 
     #[inline(always)]
-    fn put_fetch(&mut self, line_room: &mut LineRoom, tick: u64, address: &[u8; 8], end: &FetchEnd) {
-        self.page.put_fetch(&mut line_room.digits, tick, address, end);
+    fn put_fetch(
+        &mut self,
+        line_room: &mut LineRoom,
+        tick: u64,
+        address: &[u8; 8],
+        end: &FetchEnd,
+    ) {
+        self.page
+            .put_fetch(&mut line_room.digits, tick, address, end);
     }
 
     #[inline(always)]

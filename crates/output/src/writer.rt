@@ -84,37 +84,40 @@ pub trait Out {
         self.put_all(&[byte])
     }
 
-    /// Puts the line of an event. `room` is room for its text.
-    fn put_line(&mut self, room: &mut LineRoom, event: &Event) -> Result<(), IoError>
+    /// Puts the line of an event. `line_room` is room for its text.
+    fn put_line(&mut self, line_room: &mut LineRoom, event: &Event) -> Result<(), IoError>
         ensures { Put (writing self.old) (writing self.new) (line event.now) result }
     {
-        room.page.clear();
-        room.page.put_event(&mut room.digits, event);
-        let text = room.page.as_slice();
+        line_room.page.clear();
+        line_room.page.put_event(&mut line_room.digits, event);
+        let text = line_room.page.as_slice();
         self.put_all(text)
     }
 
     /// Returns whether there is room for the lines of any step.
     #[inline(always)]
     fn has_room(&self) -> bool
-        ensures { result ≡ true → (gathers ≡ true) × (STEP_ROOM ≤ room self.now) }
+        ensures { result ≡ true → (gathers ≡ true) × (0x500 ≤ room self.now) }
     {
         false
     }
 
-    /// Puts the line of a fetch that was done, for which there is room. `line_room` has the digits that are kept.
+    /// Puts the line of a fetch that was done, for which there is room. `line_room` has the digits that are kept. Does
+    /// nothing where no lines are gathered.
     fn put_fetch(&mut self, line_room: &mut LineRoom, tick: u64, address: &[u8; 8], end: &FetchEnd)
         requires { gathers ≡ true → 64 ≤ room self.old }
         ensures put { gathers ≡ true → (at : ℕ) → address.now ≡ hex_word at
             → WritesAll (writing self.old) (writing self.new)
             (line (accessed tick (fetch_at at end.now.privileged) end.now.rule None)) }
-        ensures room { room self.old ≤ room self.new + 64 };
+        ensures room { room self.old ≤ room self.new + 64 }
+        ensures none { gathers ≡ false → writing self.new ≡ writing self.old };
 
-    /// Puts the line of an event, for which there is room.
+    /// Puts the line of an event, for which there is room. Does nothing where no lines are gathered.
     fn put_within(&mut self, line_room: &mut LineRoom, event: &Event)
         requires { gathers ≡ true → 64 ≤ room self.old }
         ensures put { gathers ≡ true → WritesAll (writing self.old) (writing self.new) (line event.now) }
-        ensures room { room self.old ≤ room self.new + 64 };
+        ensures room { room self.old ≤ room self.new + 64 }
+        ensures none { gathers ≡ false → writing self.new ≡ writing self.old };
 
     /// Sends the bytes that wait. On an error some of them may still wait.
     fn flush_all(&mut self) -> Result<(), IoError>
@@ -213,8 +216,7 @@ impl<W: Write + Drop, K: Ledger> Out for Over<W, K> {
         _tick: u64,
         _address: &[u8; 8],
         _end: &FetchEnd,
-    ) {
-    }
+    ) {}
 
     fn put_within(&mut self, _line_room: &mut LineRoom, _event: &Event) {}
 

@@ -11,7 +11,8 @@ use Rattle.platform.specs.declared.event.EventKind.{EventKind}
 use Rattle.platform.specs.declared.event.EventKind.TheVariants.{Accessed}
 use Rattle.platform.specs.Events.{line}
 use Rattle.platform.specs.declared.access.Rule.{Rule}
-use Rattle.platform.specs.Text.{access_text, hex_byte, hex_word, kind_text, line_feed, outcome_text, privilege_text, rule_text}
+use Rattle.platform.specs.Text.{access_text, hex_byte, hex_word, kind_text, line_feed, outcome_text, privilege_text}
+use Rattle.platform.specs.Text.{rule_text}
 use Rattle.trace.proofs.Pairs.{upper_half}
 use Rattle.reference.specs.Accesses.{accessed}
 use Rattle.reference.specs.LoadStore.{fetch_at}

@@ -82,6 +82,7 @@ impl<const ROOM: usize> Page<ROOM> {
         requires { length self.old + 64 ≤ ROOM }
         ensures text { (at : ℕ) → address.now ≡ hex_word at → self.new ≡ self.old
             ++ line (accessed tick (fetch_at at end.now.privileged) end.now.rule None) }
+        ensures longer { length self.old ≤ length self.new }
         ensures short { length self.new ≤ length self.old + 64 }
     {
         if digits.tick.hold(tick) {
@@ -102,6 +103,7 @@ impl<const ROOM: usize> Page<ROOM> {
         requires { length self.old + 64 ≤ ROOM }
         ensures text { (at : ℕ) → address.now ≡ hex_word at → self.new ≡ self.old
             ++ line (accessed tick (fetch_at at end.now.privileged) end.now.rule None) }
+        ensures longer { length self.old ≤ length self.new }
         ensures short { length self.new ≤ length self.old + 64 }
     {
         self.put_decimal(tick);
