@@ -2,7 +2,6 @@
 #![tactic(auto)]
 
 mod at_once;
-mod data_at_once;
 pub mod foresight;
 mod keeping;
 pub mod laws;

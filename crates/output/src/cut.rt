@@ -90,17 +90,6 @@ impl<O: Out + Drop> Cut<O> {
 }
 
 impl<O: Out + Drop> Out for Cut<O> {
-    ghost room = { λ _. 0 };
-
-    #[inline(always)]
-    fn put_fetch(&mut self, _line_room: &mut LineRoom, _tick: u64, _address: &[u8; 8], _end: &FetchEnd) {}
-
-    #[inline(always)]
-    fn put_byte_within(&mut self, _byte: u8) {}
-
-    #[inline(always)]
-    fn put_within(&mut self, _line_room: &mut LineRoom, _event: &Event) {}
-
     ghost writing = { λ c. with_errors c.failed (O.writing c.inner) };
 
     ghost gathers = { false };
@@ -138,6 +127,8 @@ impl<O: Out + Drop> Out for Cut<O> {
         _address: &[u8; 8],
         _end: &FetchEnd,
     ) {}
+
+    fn put_byte_within(&mut self, _byte: u8) {}
 
     fn put_within(&mut self, _line_room: &mut LineRoom, _event: &Event) {}
 

@@ -97,28 +97,6 @@ impl<O: Out + Drop> Paged<O> {
 }
 
 impl<O: Out + Drop> Out for Paged<O> {
-    ghost room = { λ p. 0x4000 - length p.page };
-
-    #[inline(always)]
-    fn has_room(&self) -> bool {
-        self.page.len() <= FULL
-    }
-
-    #[inline(always)]
-    fn put_fetch(&mut self, line_room: &mut LineRoom, tick: u64, address: &[u8; 8], end: &FetchEnd) {
-        self.page.put_fetch(&mut line_room.digits, tick, address, end);
-    }
-
-    #[inline(always)]
-    fn put_byte_within(&mut self, byte: u8) {
-        self.page.put(&[byte]);
-    }
-
-    #[inline(always)]
-    fn put_within(&mut self, line_room: &mut LineRoom, event: &Event) {
-        self.page.put_event(&mut line_room.digits, event);
-    }
-
     ghost writing = { λ p. with_page (drop p.at p.page) (O.writing p.inner) };
 
     ghost gathers = { true };
@@ -173,6 +151,11 @@ impl<O: Out + Drop> Out for Paged<O> {
     ) {
         self.page
             .put_fetch(&mut line_room.digits, tick, address, end);
+    }
+
+    #[inline(always)]
+    fn put_byte_within(&mut self, byte: u8) {
+        self.page.put(&[byte]);
     }
 
     #[inline(always)]

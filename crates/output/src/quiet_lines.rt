@@ -1,8 +1,9 @@
 //! A sink that writes the text of each event at once, where there is room for it.
 
-ghost use Rattle.std.specs.Prelude.{◌≡◌, ◌≤◌, ◌+◌, ◌*◌, false, length, Option};
+ghost use Rattle.std.specs.Prelude.{◌≡◌, ◌≤◌, ◌+◌, ◌*◌, true, false, [], ◌∷◌, length, Option};
 ghost use Rattle.output.specs.Emitting.{BeforeStep, WritesSoFar, emission};
-ghost use Rattle.trace.specs.Selection.{last_printed};
+ghost use Rattle.output.specs.Output.{WritesAll};
+ghost use Rattle.trace.specs.Selection.{kinds_text, last_printed};
 
 use crate::history::History;
 use crate::view::View;
@@ -10,7 +11,8 @@ use crate::writer::{LineRoom, Out};
 use platform::event::Event;
 use std::marker::PhantomData;
 use trace::line_end::FetchEnd;
-use trace::sink::Sink;
+use trace::selection::TraceSelection;
+use trace::sink::{Sink, fetch_event};
 
 /// Writes the text of one step's events that are of the kinds that a view has, of each as it comes, where there is room
 /// for all of them.
@@ -23,6 +25,7 @@ pub struct QuietLines<'a, O: Out, V: View> {
     view: PhantomData<V>,
     // The writer before each event, and the event.
     history: History<O, Event>,
+    ghost gathers: { O.gathers ≡ true },
     ghost writes: { ∥ WritesSoFar V.SELECTION (emission O.writing out.ghost_name out.now history.items)
         (O.writing out.now) false ∥₁ },
     ghost ends: { last ≡ last_printed V.SELECTION
@@ -35,7 +38,8 @@ impl<'a, O: Out, V: View> QuietLines<'a, O, V> {
     /// Makes a sink over a writer, before the first event of a step.
     #[inline(always)]
     pub fn new(out: &'a mut O, room: &'a mut LineRoom) -> QuietLines<'a, O, V>
-        requires { 0xB00 ≤ O.room out.old }
+        requires gathers { O.gathers ≡ true }
+        requires room { 0xB00 ≤ O.room out.old }
         ensures same_writer { result.out.ghost_name ≡ out.entry.ghost_name }
         ensures now { result.out.now ≡ out.old }
         ensures empty { BeforeStep O.writing result.out.ghost_name result.out.now result.history.items }
@@ -49,14 +53,15 @@ impl<'a, O: Out, V: View> QuietLines<'a, O, V> {
         }
     }
 
-    /// Shows that the text of all events went out.
+    /// Shows that the text of all events went out, and how much room is left.
     #[inline(always)]
     pub fn end(&self)
-        ensures { WritesSoFar V.SELECTION
+        ensures text { WritesSoFar V.SELECTION
             (emission O.writing self.now.out.ghost_name self.now.out.now self.now.history.items)
             (O.writing self.now.out.now) false }
-    {
-    }
+        ensures room { 0xB00 ≤ O.room self.now.out.now + 64 * length
+            (emission O.writing self.now.out.ghost_name self.now.out.now self.now.history.items).events }
+    {}
 
     /// Returns the last byte that the events printed, where the view writes the bytes themselves.
     #[inline(always)]
@@ -74,21 +79,40 @@ impl<'a, O: Out, V: View> Sink for QuietLines<'a, O, V> {
     #[inline(always)]
     fn emit(&mut self, event: Event) {
         let history = self.history.and(self.out, &event);
-        if V::SELECTION.selects(&event.what) {
-            if !V::SELECTION.writes_bytes() {
-                self.out.put_within(self.room, &event);
-            } else if let Some(byte) = event.what.byte() {
-                self.out.put_byte_within(byte);
-            }
-        }
+        put_within(V::SELECTION, self.out, self.room, &event);
         self.last = V::SELECTION.last_after(self.last, &event);
         self.history = history;
     }
 
     #[inline(always)]
-    fn emit_fetch(&mut self, tick: u64, _address: u32, digits: &[u8; 8], end: &FetchEnd) {
+    fn emit_fetch(&mut self, tick: u64, address: u32, digits: &[u8; 8], end: &FetchEnd) {
+        let event = fetch_event(tick, address, end);
+        let history = self.history.and(self.out, &event);
         if V::SELECTION.has_done_accesses() {
             self.out.put_fetch(self.room, tick, digits, end);
         }
+        self.last = V::SELECTION.last_after(self.last, &event);
+        self.history = history;
+    }
+}
+
+/// Puts the text of an event if its kind is selected. There is room for it.
+#[inline(always)]
+fn put_within<O: Out>(selection: TraceSelection, out: &mut O, room: &mut LineRoom, event: &Event)
+    requires gathers { O.gathers ≡ true }
+    requires room { 64 ≤ O.room out.old }
+    ensures put { WritesAll (O.writing out.old) (O.writing out.new) (kinds_text selection (event.now ∷ [])) }
+    ensures room { O.room out.old ≤ O.room out.new + 64 }
+{
+    if !selection.selects(&event.what) {
+        return;
+    }
+    if !selection.writes_bytes() {
+        out.put_within(room, event);
+        return;
+    }
+    match event.what.byte() {
+        Some(byte) => out.put_byte_within(byte),
+        None => {}
     }
 }

@@ -41,7 +41,7 @@ pub struct IoError;
 
 /// Room for 20 lines of at most 64 bytes. A step of an instruction whose accesses are done has at most 18 lines: two of
 /// fetches, and 16 of other accesses.
-pub const STEP_ROOM: usize = 0x500;
+pub const STEP_ROOM: usize = 0xB00;
 
 /// A writer that reports how many of the bytes it took. A contract sees the bytes that it has
 /// taken, where they are known, how many calls failed or took 0 bytes of a nonempty piece, and
@@ -97,7 +97,7 @@ pub trait Out {
     /// Returns whether there is room for the lines of any step.
     #[inline(always)]
     fn has_room(&self) -> bool
-        ensures { result ≡ true → (gathers ≡ true) × (0x500 ≤ room self.now) }
+        ensures { result ≡ true → (gathers ≡ true) × (0xB00 ≤ room self.now) }
     {
         false
     }
@@ -116,6 +116,13 @@ pub trait Out {
     fn put_within(&mut self, line_room: &mut LineRoom, event: &Event)
         requires { gathers ≡ true → 64 ≤ room self.old }
         ensures put { gathers ≡ true → WritesAll (writing self.old) (writing self.new) (line event.now) }
+        ensures room { room self.old ≤ room self.new + 64 }
+        ensures none { gathers ≡ false → writing self.new ≡ writing self.old };
+
+    /// Puts a byte, for which there is room. Does nothing where no lines are gathered.
+    fn put_byte_within(&mut self, byte: u8)
+        requires { gathers ≡ true → 64 ≤ room self.old }
+        ensures put { gathers ≡ true → WritesAll (writing self.old) (writing self.new) (byte ∷ []) }
         ensures room { room self.old ≤ room self.new + 64 }
         ensures none { gathers ≡ false → writing self.new ≡ writing self.old };
 
@@ -179,17 +186,6 @@ impl<T: Drop, K: Ledger> Over<T, K> {
 }
 
 impl<W: Write + Drop, K: Ledger> Out for Over<W, K> {
-    ghost room = { λ _. 0 };
-
-    #[inline(always)]
-    fn put_fetch(&mut self, _line_room: &mut LineRoom, _tick: u64, _address: &[u8; 8], _end: &FetchEnd) {}
-
-    #[inline(always)]
-    fn put_byte_within(&mut self, _byte: u8) {}
-
-    #[inline(always)]
-    fn put_within(&mut self, _line_room: &mut LineRoom, _event: &Event) {}
-
     ghost writing = { λ o. record { written = W.contents o.inner; errors = o.book.total; waits = [] } };
 
     ghost gathers = { false };
@@ -217,6 +213,8 @@ impl<W: Write + Drop, K: Ledger> Out for Over<W, K> {
         _address: &[u8; 8],
         _end: &FetchEnd,
     ) {}
+
+    fn put_byte_within(&mut self, _byte: u8) {}
 
     fn put_within(&mut self, _line_room: &mut LineRoom, _event: &Event) {}
 

@@ -4,7 +4,7 @@
 pub mod digits;
 mod head;
 pub mod hex;
-mod line_end;
+pub mod line_end;
 pub mod lines;
 pub mod page;
 pub mod selection;

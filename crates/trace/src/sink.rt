@@ -36,7 +36,7 @@ pub trait Sink {
 
 /// Returns the event of a fetch that was done.
 #[inline(always)]
-fn fetch_event(tick: u64, address: u32, end: &FetchEnd) -> Event
+pub fn fetch_event(tick: u64, address: u32, end: &FetchEnd) -> Event
     ensures { result ≡ accessed tick (fetch_at address end.now.privileged) end.now.rule None }
 {
     Event {
