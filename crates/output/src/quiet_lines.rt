@@ -1,8 +1,11 @@
 //! A sink that writes the text of each event at once, where there is room for it.
 
-ghost use Rattle.std.specs.Prelude.{◌≡◌, ◌≤◌, ◌+◌, ◌*◌, true, false, [], ◌∷◌, length, Option};
+ghost use Rattle.std.specs.Prelude.{◌≡◌, ◌≤◌, ◌+◌, ◌*◌, true, false, [], ◌∷◌, None, length, Option};
 ghost use Rattle.output.specs.Emitting.{BeforeStep, WritesSoFar, emission};
 ghost use Rattle.output.specs.Output.{WritesAll};
+ghost use Rattle.platform.specs.Text.{hex_word};
+ghost use Rattle.reference.specs.Accesses.{accessed};
+ghost use Rattle.reference.specs.LoadStore.{fetch_at};
 ghost use Rattle.trace.specs.Selection.{kinds_text, last_printed};
 
 use crate::history::History;
@@ -88,9 +91,7 @@ impl<'a, O: Out, V: View> Sink for QuietLines<'a, O, V> {
     fn emit_fetch(&mut self, tick: u64, address: u32, digits: &[u8; 8], end: &FetchEnd) {
         let event = fetch_event(tick, address, end);
         let history = self.history.and(self.out, &event);
-        if V::SELECTION.has_done_accesses() {
-            self.out.put_fetch(self.room, tick, digits, end);
-        }
+        put_fetch(V::SELECTION, self.out, self.room, tick, address, digits, end);
         self.last = V::SELECTION.last_after(self.last, &event);
         self.history = history;
     }
@@ -114,5 +115,29 @@ fn put_within<O: Out>(selection: TraceSelection, out: &mut O, room: &mut LineRoo
     match event.what.byte() {
         Some(byte) => out.put_byte_within(byte),
         None => {}
+    }
+}
+
+/// Puts the line of a fetch that was done, if lines of such accesses are written. There is room for it.
+#[inline(always)]
+fn put_fetch<O: Out>(
+    selection: TraceSelection,
+    out: &mut O,
+    room: &mut LineRoom,
+    tick: u64,
+    address: u32,
+    digits: &[u8; 8],
+    end: &FetchEnd,
+)
+    requires gathers { O.gathers ≡ true }
+    requires room { 64 ≤ O.room out.old }
+    requires digits { digits.now ≡ hex_word address }
+    ensures put { WritesAll (O.writing out.old) (O.writing out.new)
+        (kinds_text selection (accessed tick (fetch_at address end.now.privileged) end.now.rule None ∷ [])) }
+    ensures room { O.room out.old ≤ O.room out.new + 64 }
+{
+    let _address = address;
+    if selection.has_done_accesses() {
+        out.put_fetch(room, tick, digits, end);
     }
 }
