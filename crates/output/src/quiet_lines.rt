@@ -91,7 +91,15 @@ impl<'a, O: Out, V: View> Sink for QuietLines<'a, O, V> {
     fn emit_fetch(&mut self, tick: u64, address: u32, digits: &[u8; 8], end: &FetchEnd) {
         let event = fetch_event(tick, address, end);
         let history = self.history.and(self.out, &event);
-        put_fetch(V::SELECTION, self.out, self.room, tick, address, digits, end);
+        put_fetch(
+            V::SELECTION,
+            self.out,
+            self.room,
+            tick,
+            address,
+            digits,
+            end,
+        );
         self.last = V::SELECTION.last_after(self.last, &event);
         self.history = history;
     }

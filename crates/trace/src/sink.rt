@@ -6,8 +6,8 @@ ghost use Rattle.reference.specs.Accesses.{accessed};
 ghost use Rattle.reference.specs.LoadStore.{fetch_at};
 ghost use Rattle.trace.specs.Emission.{Emission, with_emitted};
 
-use bounded::Bounded;
 use crate::line_end::FetchEnd;
+use bounded::Bounded;
 use instruction_set::size::Size;
 use platform::access::{Access, DecidedAccess, Kind};
 use platform::event::{Event, EventKind, MAX_EVENTS};
