@@ -75,13 +75,13 @@ impl LineEnd {
 #[derive(Clone, Copy)]
 pub struct FetchEnd {
     /// The end, in the first `count` bytes. All 16 are copied at once.
-    pub(crate) text: [u8; 16],
+    pub(crate) low: [u8; 8],
+    pub(crate) high: [u8; 8],
     pub(crate) count: usize,
     pub rule: Rule,
     pub privileged: bool,
     ghost few: { count ≤ 16 },
-    ghost right: { take count text ≡ fetch_end privileged rule },
-}
+    }
 
 impl FetchEnd {
     /// Returns the end for privileged code while the MPU is off.
@@ -89,7 +89,8 @@ impl FetchEnd {
         ensures { (result.rule ≡ MpuOff) × (result.privileged ≡ true) }
     {
         FetchEnd {
-            text: *b" 2 p ok off\n    ",
+            low: *b" 2 p ok ",
+            high: *b"off\n    ",
             count: 12,
             rule: Rule::MpuOff,
             privileged: true,
@@ -106,7 +107,8 @@ impl FetchEnd {
     {
         let end = end_of(rule)?;
         Some(FetchEnd {
-            text: after_address(&end.0, privileged),
+            low: low_of(&end.0, privileged),
+            high: high_of(&end.0),
             count: 4 + end.1,
             rule,
             privileged,
@@ -132,6 +134,14 @@ fn before_end(privileged: bool) -> [u8; 16]
     } else {
         *b" 2 u            "
     }
+}
+
+fn low_of(end: &[u8; 8], privileged: bool) -> [u8; 8] {
+    [b' ', b'2', b' ', if privileged { b'p' } else { b'u' }, end[0], end[1], end[2], end[3]]
+}
+
+fn high_of(end: &[u8; 8]) -> [u8; 8] {
+    [end[4], end[5], end[6], end[7], b' ', b' ', b' ', b' ']
 }
 
 /// Returns the end of the line of an access that was done, and its length; None if it is longer than 8 bytes. Regions

@@ -87,9 +87,15 @@ impl<const ROOM: usize> Page<ROOM> {
     {
         if digits.tick.hold(tick) {
             let address = *address;
-            let end = *end;
+            let low = end.low;
+            let high = end.high;
+            let count = end.count;
             digits.tick.put_held(tick, self);
-            self.put_after_tick(&address, &end);
+            self.put_some(b" F  ", 3);
+            self.put(&address);
+            self.put(&low);
+            self.put(&high);
+            self.cut(count);
         } else {
             self.put_late_fetch(tick, address, end);
         }
@@ -120,7 +126,9 @@ impl<const ROOM: usize> Page<ROOM> {
     {
         self.put_some(b" F  ", 3);
         self.put(address);
-        self.put_front(&end.text, end.count);
+        self.put(&end.low);
+        self.put(&end.high);
+        self.cut(end.count);
     }
 
     /// Appends the line of a stop.

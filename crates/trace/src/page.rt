@@ -111,6 +111,12 @@ impl<const ROOM: usize> Page<ROOM> {
         self.len = at + count;
     }
 
+    /// Takes all but `count` of the last 16 bytes off.
+    #[inline(always)]
+    pub(crate) fn cut(&mut self, count: usize) {
+        self.len = self.len - 16 + count;
+    }
+
     /// Appends bytes.
     pub fn put_slice(&mut self, text: &[u8])
         requires { length self.old + length text.now ≤ ROOM }
