@@ -2,7 +2,6 @@
 # Steps go into handlers, or over them and other tasks: a step over them ends in the code that it began in.
 tbreak task_a
 continue
-#= task_a ()
 stepi 40
 info threads
 #= (handler 11)
@@ -11,20 +10,18 @@ monitor restart
 maintenance flush register-cache
 tbreak task_a
 continue
-#= task_a ()
 monitor step over
 #= ok
 stepi 40
-#= task_a ()
 info threads
-#= (thread unprivileged)
+#= (thread unprivileged) task_a ()
 stepi 460
 info threads
 #= (thread unprivileged)
-#= task_a ()
+#= in task_a ()
 monitor history
 #= now 1375
 next
+#= 8	
 info threads
-#= (thread unprivileged)
-#= task_a ()
+#= (thread unprivileged) task_a ()
