@@ -4,9 +4,7 @@ ghost use Rattle.std.specs.Prelude.{◌≡◌};
 ghost use Rattle.gdb.specs.Over.{is_back, is_same_code, is_stack, remembered_after, return_point};
 ghost use Rattle.instruction_set.specs.Registers.{uses_psp};
 
-use machine::{
-    Decider, Exceptions, KeptCode, Machine, StepKind, SysTickState, is_instruction,
-};
+use machine::{Decider, Exceptions, KeptCode, Machine, StepKind, SysTickState, is_instruction};
 
 /// The code that a step over handlers returns to: the exception whose handler it is, or 0, the stack that it uses, SP,
 /// and its next instruction.
@@ -56,7 +54,11 @@ fn is_same_code(one: ReturnPoint, other: ReturnPoint) -> bool
 {
     one.exception == other.exception
         && one.sp == other.sp
-        && (if one.uses_psp { other.uses_psp } else { !other.uses_psp })
+        && (if one.uses_psp {
+            other.uses_psp
+        } else {
+            !other.uses_psp
+        })
 }
 
 /// Returns whether the next step is an instruction of the code that was interrupted.
