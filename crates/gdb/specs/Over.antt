@@ -27,7 +27,7 @@ is_stack (Some kind.Instruction) = false
 -- whether two points are in the same code: of the same exception, on the same stack, with the same SP
 abbrev pub is_same_code : ReturnPoint → ReturnPoint → Bool
 is_same_code a b =
-    (a.exception == b.exception) && (a.sp == b.sp) && (if a.uses_psp then b.uses_psp else not b.uses_psp)
+    (a.exception == b.exception) && ((a.sp == b.sp) && (if a.uses_psp then b.uses_psp else not b.uses_psp))
 
 -- whether the next step is an instruction of the code that was interrupted
 abbrev pub is_back : State → ReturnPoint → Bool

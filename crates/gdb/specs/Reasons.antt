@@ -138,7 +138,7 @@ abbrev pub reason_after : Settings → Resume → Bool → Bool → List Event �
 reason_after k how is_away was_instruction events stop pc =
     reason_or (stop_reason stop)
     (reason_or (reason_of_events k events)
-    (reason_if (not is_away && (was_instruction || has_entry events) && leaves how pc) reason.Done))
+    (reason_if (not is_away && ((was_instruction || has_entry events) && leaves how pc)) reason.Done))
 
 -- ---- before a step
 

@@ -53,12 +53,12 @@ fn is_same_code(one: ReturnPoint, other: ReturnPoint) -> bool
     ensures { result ≡ is_same_code one other }
 {
     one.exception == other.exception
-        && one.sp == other.sp
-        && (if one.uses_psp {
-            other.uses_psp
-        } else {
-            !other.uses_psp
-        })
+        && (one.sp == other.sp
+            && (if one.uses_psp {
+                other.uses_psp
+            } else {
+                !other.uses_psp
+            }))
 }
 
 /// Returns whether the next step is an instruction of the code that was interrupted.

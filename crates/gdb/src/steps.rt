@@ -236,7 +236,7 @@ pub fn reason_after(
     if let Some(reason) = reason_of_events(settings, events) {
         return Some(reason);
     }
-    if !is_away && (was_instruction || has_entry(events)) && leaves(how, pc) {
+    if !is_away && ((was_instruction || has_entry(events)) && leaves(how, pc)) {
         return Some(StopReason::Done);
     }
     None
