@@ -1,0 +1,90 @@
+-- Checkpoints: they are right for their mark, as they are kept, and for every mark after they were forgotten.
+use Rattle.std.proofs.Common.{◌≡◌, ◌∙◌, ◌+◌, ◌-◌, ◌^◌, ◌≤◌, ◌<◌, ℕ, List, All, ap, arith, length, min, refl, replicate}
+use Rattle.std.proofs.Common.{slice_index_or, slice_set, sym}
+use Rattle.std.proofs.lemmas.List.{length-replicate, length-set}
+use Rattle.std.proofs.lemmas.List.Elements.{All-replicate, All-set}
+use Rattle.gdb_past.proofs.Following.{after_none, same_refl, same_sym, same_trans}
+use Rattle.gdb_past.specs.Checkpoints.{AreRight, Checkpoint, Checkpoints, IsNear, IsRight, last_generation}
+use Rattle.gdb_past.specs.Places.{AreOfOneMachine}
+use Rattle.reference.specs.Run.{after}
+use Rattle.reference.specs.State.{State}
+
+-- what holds of all elements, where it follows from what holds of each
+pub all_then : {A : Type 0} (P Q : A → Type 0) (xs : List A) → ((x : A) → P x → Q x) → All P xs → All Q xs
+all_then P Q xs f h = λ i d there. f (slice_index_or xs i d) (h i d there)
+
+-- ---- at first
+
+abbrev pub first_checkpoint : State → Checkpoint
+first_checkpoint t = record { state = t; steps = 0; generation = 0 }
+
+pub first_right : (t : State) (slots : List Checkpoint) (n : ℕ) (cs : Checkpoints)
+    → slots ≡ replicate n (first_checkpoint t) → n ≡ 16 → cs ≡ record { slots = slots; generation = 0 }
+    → AreRight t t cs
+first_right t slots n cs is all made =
+    rw (made, is, all) (record {
+      rooms = length-replicate 16 (first_checkpoint t);
+      fits = All-replicate (λ c. AreOfOneMachine t c.state) 16 (first_checkpoint t) (same_refl t);
+      before = All-replicate (λ c. c.generation ≤ 0) 16 (first_checkpoint t) (omega arith);
+      right = All-replicate (λ c. IsRight t 0 c) 16 (first_checkpoint t) (λ e b. sym (after_none t));
+    })
+
+-- ---- for another mark
+
+none_right : (n : State) (old new : ℕ) (c : Checkpoint) → new ≡ min (old + 1) (2 ^ 64 - 1) → c.generation ≤ old
+    → IsRight n new c
+none_right n old new c is before = λ same used.
+    let less : c.generation < new = omega (arith, is, before, used) in
+    absurd (omega (arith, less, same))
+
+pub cleared_right : (start m n : State) (old new : Checkpoints) → AreRight start m old
+    → new ≡ record old { generation = min (old.generation + 1) (2 ^ 64 - 1) } → (old.generation < 2 ^ 64)
+    → AreRight start n new
+cleared_right start m n old new h is fits =
+    let g = min (old.generation + 1) (2 ^ 64 - 1) in
+    let more : old.generation ≤ g = omega arith in
+    rw is (record {
+      rooms = h.rooms;
+      fits = h.fits;
+      before = all_then (λ c. c.generation ≤ old.generation) (λ c. c.generation ≤ g) old.slots
+          (λ c b. omega (arith, b, more)) h.before;
+      right = all_then (λ c. c.generation ≤ old.generation) (λ c. IsRight n g c) old.slots
+          (λ c b. none_right n old.generation g c refl b) h.before;
+    })
+
+-- ---- kept
+
+pub kept_right : (start m s : State) (old new : Checkpoints) (slot steps : ℕ) → AreRight start m old
+    → s ≡ after steps m → AreOfOneMachine start s
+    → new ≡ record old { slots = slice_set old.slots slot
+      (record { state = s; steps = steps; generation = old.generation }) }
+    → AreRight start m new
+kept_right start m s old new slot steps h here fits is =
+    let c : Checkpoint = record { state = s; steps = steps; generation = old.generation } in
+    rw is (record {
+      rooms = length-set old.slots slot c ∙ h.rooms;
+      fits = All-set (λ x. AreOfOneMachine start x.state) old.slots slot c fits h.fits;
+      before = All-set (λ x. x.generation ≤ old.generation) old.slots slot c (omega arith) h.before;
+      right = All-set (λ x. IsRight m old.generation x) old.slots slot c (λ e b. here) h.right;
+    })
+
+-- ---- used
+
+pub near_right : (start m : State) (cs : Checkpoints) (most number : ℕ) (c : Checkpoint) → AreRight start m cs
+    → IsNear cs most number
+    → (slice_index_or cs.slots number c).state ≡ after (slice_index_or cs.slots number c).steps m
+near_right start m cs most number c h near =
+    h.right number c (omega (arith, near.there, h.rooms)) (near.same c) near.used
+
+-- all checkpoints are of the machine that has this state
+pub all_fit : (start m s : State) (cs : Checkpoints) → AreRight start m cs → AreOfOneMachine start s
+    → All (λ c. AreOfOneMachine c.state s) cs.slots
+all_fit start m s cs h fits =
+    all_then (λ c. AreOfOneMachine start c.state) (λ c. AreOfOneMachine c.state s) cs.slots
+    (λ c f. same_trans c.state start s (same_sym start c.state f) fits) h.fits
+
+pub fit_all : (start m s : State) (cs : Checkpoints) → AreRight start m cs → AreOfOneMachine start s
+    → All (λ c. AreOfOneMachine s c.state) cs.slots
+fit_all start m s cs h fits =
+    all_then (λ c. AreOfOneMachine start c.state) (λ c. AreOfOneMachine s c.state) cs.slots
+    (λ c f. same_trans s start c.state (same_sym start s fits) f) h.fits
