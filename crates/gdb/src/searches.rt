@@ -289,7 +289,9 @@ fn found_from<D: Decider, C: KeptCode, L: Exceptions, U: SysTickState>(
     let tick = past.tick(number);
     let skipped = low.saturating_sub(tick);
     let count = quest.end.saturating_sub(tick);
-    let later = found_between(quest, points, settings, number, skipped, count, past, machine);
+    let later = found_between(
+        quest, points, settings, number, skipped, count, past, machine,
+    );
     if later.is_some() {
         return later;
     }

@@ -56,8 +56,10 @@ cleared_right start m n old new h is fits =
 
 pub kept_right : (start m s : State) (old new : Checkpoints) (slot steps : ℕ) → AreRight start m old
     → s ≡ after steps m → AreOfOneMachine start s
-    → new ≡ record old { slots = slice_set old.slots slot
-      (record { state = s; steps = steps; generation = old.generation }) }
+    → new ≡ record old {
+      slots = slice_set old.slots slot
+          (record { state = s; steps = steps; generation = old.generation });
+    }
     → AreRight start m new
 kept_right start m s old new slot steps h here fits is =
     let c : Checkpoint = record { state = s; steps = steps; generation = old.generation } in

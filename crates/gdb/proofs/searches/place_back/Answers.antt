@@ -78,7 +78,7 @@ marks-preserved g c =
       | then-tick-quest+in_default+else-tick-low w ↦ record {
         place = λ s.
             let at : c.tick-tick.result ≡ tick_of (slice_index_or marks n s) =
-    c.tick-tick.ensures s ∙ ap (λ (p : Past). tick_of (slice_index_or p.marks n s)) c.marks.invariant.past in
+            c.tick-tick.ensures s ∙ ap (λ (p : Past). tick_of (slice_index_or p.marks n s)) c.marks.invariant.past in
             ap (λ (q : Quest). place_back q c.args.points.now c.args.settings.now c.args.low
             (slice_index_or (s ∷ marks) (n + 1) s) (drop (n + 1) marks))
             (w.quest-is ∙ ap (λ i. record c.marks.quest { end = i; continues = false }) at)
@@ -96,7 +96,7 @@ marks-preserved g c =
       | else-tick-quest w ↦ record {
         place = λ s.
             let at : c.tick-tick.result ≡ tick_of (slice_index_or marks n s) =
-    c.tick-tick.ensures s ∙ ap (λ (p : Past). tick_of (slice_index_or p.marks n s)) c.marks.invariant.past in
+            c.tick-tick.ensures s ∙ ap (λ (p : Past). tick_of (slice_index_or p.marks n s)) c.marks.invariant.past in
             ap (λ (q : Quest). place_back q c.args.points.now c.args.settings.now c.args.low
             (slice_index_or (s ∷ marks) (n + 1) s) (drop (n + 1) marks)) w.quest-is
             ∙ (passed_over c.marks.quest c.args.points.now c.args.settings.now c.args.low n s marks there
