@@ -1,11 +1,12 @@
 -- Checkpoints: they are right for their mark, as they are kept, and for every mark after they were forgotten.
-use Rattle.std.proofs.Common.{◌≡◌, ◌∙◌, ◌+◌, ◌-◌, ◌^◌, ◌≤◌, ◌<◌, ℕ, List, All, ap, arith, length, min, refl, replicate}
-use Rattle.std.proofs.Common.{slice_index_or, slice_set, sym}
+use Rattle.std.proofs.Common.{◌≡◌, ◌∙◌, ◌+◌, ◌-◌, ◌^◌, ◌≤◌, ◌<◌, ℕ, zero, suc, List, [], ◌∷◌, All, ap, arith, length}
+use Rattle.std.proofs.Common.{min, refl, replicate, slice_index_or, slice_set, sym, take}
 use Rattle.std.proofs.lemmas.List.{length-replicate, length-set}
 use Rattle.std.proofs.lemmas.List.Elements.{All-replicate, All-set}
 use Rattle.gdb_past.proofs.Following.{after_none, same_refl, same_sym, same_trans}
 use Rattle.gdb_past.specs.Checkpoints.{AreRight, Checkpoint, Checkpoints, IsNear, IsRight, last_generation}
 use Rattle.gdb_past.specs.Places.{AreOfOneMachine}
+use Rattle.machine.specs.MachineModel.{MachineModel}
 use Rattle.reference.specs.Run.{after}
 use Rattle.reference.specs.State.{State}
 
@@ -90,3 +91,22 @@ pub fit_all : (start m s : State) (cs : Checkpoints) → AreRight start m cs →
 fit_all start m s cs h fits =
     all_then (λ c. AreOfOneMachine start c.state) (λ c. AreOfOneMachine s c.state) cs.slots
     (λ c f. same_trans s start c.state (same_sym start s fits) f) h.fits
+
+-- ---- the machine on its way
+
+pub moved_on : (old mid new : MachineModel) (s t : State) → mid ≡ record old { state = s }
+    → new ≡ record mid { state = t } → new ≡ record old { state = t }
+moved_on old mid new s t goes is = is ∙ ap (λ (k : MachineModel). record k { state = t }) goes
+
+-- the first of the marks in use
+pub last_mark : (xs : List State) (count : ℕ) (m s : State) → 0 < count → 0 < length xs
+    → slice_index_or xs 0 s ≡ slice_index_or (take count xs) 0 m
+last_mark [] count m s some any = absurd (omega (arith, any))
+last_mark (x ∷ xs) zero m s some any = absurd (omega (arith, some))
+last_mark (x ∷ xs) (suc n) m s some any = refl
+
+pub marked_right : (s t : State) (xs : List State) (n : ℕ) (cs : Checkpoints) → s ≡ t → xs ≡ replicate n t → n ≡ 8
+    → AreRight t t cs → AreRight s (slice_index_or xs 0 s) cs
+marked_right s t xs n cs e is eight h =
+    let first : slice_index_or (replicate 8 t) 0 s ≡ t = refl in
+    rw (is, eight, first, e) h
