@@ -148,17 +148,6 @@ impl<L: Exceptions, U: SysTickState> Past<L, U> {
         self.marks[number].tick()
     }
 
-    /// Takes the machine back to a mark, by its number from the last one.
-    fn restore<D: Decider, C: KeptCode>(&self, number: usize, machine: &mut Machine<D, C, L, U>)
-        requires number { number < length self.now.marks }
-        requires fits { AreOfOneMachine self.now.start machine.old.state }
-        ensures state { (m : State) →
-            machine.new ≡ record machine.old { state = slice_index_or self.now.marks number m } }
-        ensures same { AreOfOneMachine self.now.start machine.new.state }
-    {
-        self.marks[number].restore(machine);
-    }
-
     /// Takes the machine to a place at most `most` steps after a mark, of which a copy is kept: a checkpoint, or the
     /// mark. Returns how many steps after the mark it is.
     fn restore_near<D: Decider, C: KeptCode>(
