@@ -28,9 +28,6 @@ use std::marker::Model;
 pub use systick_state::{EagerSysTick, SysTickState};
 pub use timer::SysTick;
 
-#[cfg(test)]
-mod tests;
-
 /// Time. A contract sees it as the reference's `Time`, and beside it the tick that it keeps as the
 /// next one at which something is due.
 #[derive(Drop)]

@@ -18,6 +18,3 @@ pub use instruction_set::size::Size;
 pub use level::Level;
 pub use pokes::{NoPokes, Pokes};
 pub use table::device_at;
-
-#[cfg(test)]
-mod tests;

@@ -2,7 +2,7 @@
 //! those of a machine in another language, which was written from the rule alone. All other values were worked out by
 //! hand.
 
-use crate::{
+use access_map::{
     AccessMap, MAX_WORLDS, Span, World, Worlds, are_apart, map_text, others_line, pair_text,
     shared, world_line,
 };

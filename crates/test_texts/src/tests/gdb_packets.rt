@@ -1,7 +1,7 @@
 //! Packets of recorded sessions with gdb 13.1, and bytes that were written by hand.
 
-use crate::{Event, Framer, PointKind, Request, put_packet, read_packet};
 use arrayvec::ArrayVec;
+use gdb_packets::{Event, Framer, PointKind, Request, put_packet, read_packet};
 use std::test::*;
 
 /// What a row shows, bytes that end with a packet, and the data of the packet.

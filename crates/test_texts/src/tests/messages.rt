@@ -1,7 +1,7 @@
 //! What messages have of strings, and what goes out.
 
-use crate::visible::is_hidden;
-use crate::{Escaped, Messages, Quoted};
+use messages::visible::is_hidden;
+use messages::{Escaped, Messages, Quoted};
 use std::io;
 use std::io::Write;
 use std::test::*;

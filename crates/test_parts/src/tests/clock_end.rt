@@ -1,6 +1,6 @@
 //! The end of the clock, which no run can reach.
 
-use crate::{Clock, EagerSysTick, LazySysTick, Script};
+use clock::{Clock, EagerSysTick, LazySysTick, Script};
 use std::test::*;
 
 /// The tick at which a clock ends.

@@ -2,10 +2,10 @@
 
 ghost use Rattle.std.specs.Prelude.{◌≡◌, ◌+◌, ◌%◌, ◌^◌, ◌≤◌};
 
-use crate::*;
 use arrayvec::ArrayVec;
 use debugger_commands::{Condition, LineError, LineSelection};
 use devices::{Device, Stores};
+use gdb_texts::*;
 use instruction_set::size::Size;
 use platform::access::{Access, Cause, Decision, Kind, Rule};
 use platform::board::SMALL_BOARD;

@@ -1,8 +1,6 @@
 //! The number in the texts of `--steps`, beside the constant that they repeat, and the words of `gdb`.
 
-use crate::commands::{LIMIT_HELP, MAX_STEPS, STEPS_HELP};
-use crate::subcommands::{STEPS_ADVICE, Subcommand};
-use crate::words::subcommand_of;
+use command_line::{LIMIT_HELP, MAX_STEPS, STEPS_ADVICE, STEPS_HELP, Subcommand, subcommand_of};
 use std::alloc::Global;
 use std::test::*;
 

@@ -3,7 +3,7 @@
 
 ghost use Rattle.std.specs.Prelude.{◌≡◌, ◌%◌};
 
-use crate::{Device, Devices, Line, Poke, Size, Stores};
+use devices::{Device, Devices, Line, Poke, Size, Stores};
 use std::test::*;
 
 /// The status of a UART, whose bits 7 and 6 read 1. Interrupt 5 is high while a bit of it is 1 that `CONTROL` enables.

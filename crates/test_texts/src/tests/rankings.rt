@@ -1,11 +1,11 @@
 //! The rows of rankings, and shares. Expected numbers are worked out by hand.
 
-use crate::{MAX_ROWS, Ranking, Share, Totals};
 use instruction_set::size::Size;
 use platform::access::{Access, DecidedAccess, Kind, Rule};
 use platform::board::SMALL_BOARD;
 use std::test::*;
 use survey::Survey;
+use symbol_steps::{MAX_ROWS, Ranking, Share, Totals};
 use symbols::{Symbol, Symbols};
 
 /// A symbol: its address, its size and the place of its name.
