@@ -1,5 +1,5 @@
 use Rattle.std.proofs.Common.{◌-◌, ◌≤◌}
-use Rattle.report.proofs.access_table.AccessTable.add_place.Given as goal
+use Rattle.page_text.proofs.access_table.AccessTable.add_place.Given as goal
 
 abbrev pub invariant-rows : goal.invariant-rows
 invariant-rows l = record {

@@ -1,8 +1,8 @@
 //! A page in memory.
 
 ghost use Rattle.std.specs.Prelude.{◌≡◌, IfOk, take};
-ghost use Rattle.report.specs.Edges.{page_start};
-ghost use Rattle.report.specs.Pages.{IsPage};
+ghost use Rattle.page_text.specs.Edges.{page_start};
+ghost use Rattle.page_text.specs.Pages.{IsPage};
 
 use std::alloc::{AllocError, Global};
 use std::io;

@@ -1,5 +1,5 @@
-use Rattle.report.proofs.Whole.{whole_page}
-use Rattle.report.proofs.html_page.HtmlPage.end.Goals as goal
+use Rattle.page_text.proofs.Whole.{whole_page}
+use Rattle.page_text.proofs.html_page.HtmlPage.end.Goals as goal
 
 pub returns : goal.returns
 returns c =

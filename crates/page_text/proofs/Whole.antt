@@ -3,8 +3,8 @@ use Rattle.std.proofs.Common.{◌≡◌, ◌∙◌, ◌≤◌, ◌++◌, Bool, t
 use Rattle.std.proofs.Common.{ap, arith, codes, drop, length}
 use Rattle.std.proofs.Common.{sym, take, take-append-drop}
 use Rattle.std.proofs.lemmas.List.{length-take, take-append-le}
-use Rattle.report.specs.Edges.{page_start}
-use Rattle.report.specs.Pages.{IsPage, page_end}
+use Rattle.page_text.specs.Edges.{page_start}
+use Rattle.page_text.specs.Pages.{IsPage, page_end}
 
 -- the first line stays where more is written after it
 pub still_begins : (before after more : List ℕ) (ok : Bool) → take 16 before ≡ page_start

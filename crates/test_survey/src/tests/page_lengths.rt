@@ -1,15 +1,15 @@
 //! How long a page is at most: the page of a survey in which each part is filled.
 
+use super::page_worlds::world_of;
 use super::pages::IMAGE;
-use super::worlds::world_of;
-use crate::rules::OUTCOMES;
-use crate::words::{KINDS, RULE_ROWS, rule_of_row};
-use crate::{AccessTable, Report, write_page};
 use access_map::Worlds;
 use elf::load;
 use machine::{Board, Events, Fast, Kind, Layout, Place, RegionCount, Rule, Stop};
+use page_text::access_table::AccessTable;
+use page_text::words::{KINDS, OUTCOMES, RULE_ROWS, rule_of_row};
 use platform::access::{Access, Cause, DecidedAccess};
 use platform::event::RecordedFault;
+use report::{Report, write_page};
 use std::str;
 use std::test::*;
 use survey::{

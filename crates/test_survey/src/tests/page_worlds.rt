@@ -1,8 +1,6 @@
 //! The part of a page about worlds.
 
-use super::pages::start_symbol;
-use crate::AccessTable;
-use crate::worlds::write_worlds;
+use super::pages::{page_with, start_symbol};
 use access_map::{World, Worlds};
 use machine::{Layout, RegionCount};
 use mpu::{MpuRegister, MpuRegs};
@@ -83,8 +81,8 @@ const PARTS: [&str; 13] = [
     "<small>window, 4 KiB</small></th>",
 ];
 
-/// Returns the part of a page about two steps of the first world and one of the second, or of the first alone.
-fn part_of(
+/// Returns a page about two steps of the first world and one of the second, or of the first alone.
+fn page_of(
     rt: &HostRuntime,
     regions: &[(u32, u32)],
     others: &[(u32, u32)],
@@ -93,17 +91,13 @@ fn part_of(
     worlds.count(&world_of(regions)?, 7, 8);
     worlds.count(&world_of(regions)?, 8, 10);
     worlds.count(&world_of(others)?, 9, 0x200);
-    let table = AccessTable::of(rt.alloc(), &worlds, &BOARD)?;
-    let symbols = start_symbol(rt)?;
-    let mut part = Vec::new(rt.alloc());
-    write_worlds(&mut part, &worlds, &table, &symbols)?;
-    Ok(part)
+    page_with(rt, &start_symbol(rt)?, &worlds, &BOARD)
 }
 
 #[test]
 fn two_tasks_share_a_mailbox(rt: HostRuntime) -> Result<(), Fail> {
-    let part = part_of(&rt, &WRITER, &READER)?;
-    let text = str::from_utf8(part.as_slice())?;
+    let page = page_of(&rt, &WRITER, &READER)?;
+    let text = str::from_utf8(page.as_slice())?;
     'parts: for part in &PARTS {
         assert!(rt; text.contains(part), "{part}");
     }
@@ -114,9 +108,9 @@ fn two_tasks_share_a_mailbox(rt: HostRuntime) -> Result<(), Fail> {
 
 #[test]
 fn worlds_that_are_apart_have_a_sentence(rt: HostRuntime) -> Result<(), Fail> {
-    let two = part_of(&rt, &WRITER[..2], &READER[..2])?;
+    let two = page_of(&rt, &WRITER[..2], &READER[..2])?;
     assert!(rt; str::from_utf8(two.as_slice())?.contains("<p id='apart'>All worlds are apart"));
-    let one = part_of(&rt, &WRITER, &WRITER)?;
+    let one = page_of(&rt, &WRITER, &WRITER)?;
     assert!(rt; str::from_utf8(one.as_slice())?.contains("<p id='apart'>There is one world"));
     Ok(())
 }

@@ -1,7 +1,8 @@
-//! The words for what the trace writes as letters.
+//! The words for what the trace writes as letters, and for other values.
 
 ghost use Rattle.std.specs.Prelude.{◌<◌};
 
+use access_map::{Place, Rights};
 use machine::{Kind, LinePage, Rule};
 use platform::access::{Access, Cause, DecidedAccess};
 use platform::mpu::MAX_REGIONS;
@@ -17,6 +18,9 @@ pub const KINDS: [Kind; 7] = [
     Kind::Vector,
     Kind::Probe,
 ];
+
+/// What becomes of an access.
+pub const OUTCOMES: [Option<Cause>; 3] = [None, Some(Cause::Mpu), Some(Cause::Bus)];
 
 /// How many rows a table of the rules has.
 pub const RULE_ROWS: usize = MAX_REGIONS as usize + OTHER_RULES.len();
@@ -74,6 +78,14 @@ pub fn cause_word(cause: Cause) -> &'static str {
     match cause {
         Cause::Mpu => "mpu",
         Cause::Bus => "bus",
+    }
+}
+
+/// Returns the class and the sign of an access that was refused.
+pub fn outcome_sign(cause: Cause) -> (&'static str, &'static str) {
+    match cause {
+        Cause::Mpu => ("refused", "✕"),
+        Cause::Bus => ("bus", "⊘"),
     }
 }
 
@@ -197,5 +209,39 @@ impl fmt::Display for ExceptionName {
             }
             number => write!(f, "exception {number}"),
         }
+    }
+}
+
+/// The letters of rights, and `-` for each that isn't granted.
+#[derive(Clone, Copy)]
+pub struct RightsLetters(pub Rights);
+
+impl fmt::Display for RightsLetters {
+    fn fmt<W: fmt::Write>(&self, f: &mut fmt::Formatter<W>) -> fmt::Result {
+        let read = if self.0.read { "r" } else { "-" };
+        let write = if self.0.write { "w" } else { "-" };
+        let execute = if self.0.execute { "x" } else { "-" };
+        write!(f, "{read}{write}{execute}")
+    }
+}
+
+/// Returns the class of rights: their colour.
+pub fn rights_class(rights: Rights) -> &'static str {
+    if rights.write {
+        "changes"
+    } else if rights.read || rights.execute {
+        "sees"
+    } else {
+        "zero"
+    }
+}
+
+/// Returns the word for a place.
+pub fn place_word(place: Place) -> &'static str {
+    match place {
+        Place::Flash => "flash",
+        Place::Ram => "RAM",
+        Place::SecondRam => "second RAM",
+        Place::Window => "window",
     }
 }

@@ -10,10 +10,10 @@ use std::alloc::{AllocError, Global};
 pub const MAX_COLUMNS: usize = 8;
 
 /// How many rows the table has at most.
-pub const MAX_ROWS: usize = 32;
+const MAX_ROWS: usize = 32;
 
 /// How many sentences there are at most of bytes that one world shares with another.
-pub const MAX_SHARES: usize = 64;
+const MAX_SHARES: usize = 64;
 
 /// Neighbouring addresses of a place in which no right of a world that has a column changes.
 #[derive(Clone, Copy)]

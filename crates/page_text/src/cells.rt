@@ -25,7 +25,7 @@ pub fn is_refused(cells: &Cells, cell: usize) -> bool {
 }
 
 /// Returns whether something touched a cell.
-pub fn is_used(cells: &Cells, cell: usize) -> bool {
+pub(crate) fn is_used(cells: &Cells, cell: usize) -> bool {
     'strips: for strip in Strip::ALL {
         if strip.is_touched(cells, cell) {
             return true;

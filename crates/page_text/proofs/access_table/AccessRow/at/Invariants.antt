@@ -1,5 +1,5 @@
 use Rattle.std.proofs.Common.{◌≡◌, ◌≤◌}
-use Rattle.report.proofs.access_table.AccessRow.at.Given as goal
+use Rattle.page_text.proofs.access_table.AccessRow.at.Given as goal
 
 abbrev pub invariant-columns : goal.invariant-columns
 invariant-columns l = record {

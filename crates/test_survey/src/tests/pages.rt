@@ -1,9 +1,10 @@
 //! The page of a run of two steps.
 
-use crate::{AccessTable, HtmlPage, Report, write_page};
 use access_map::Worlds;
 use elf::load;
-use machine::{Board, Events, Fast, SMALL_BOARD, Stop};
+use machine::{Board, Events, Fast, Layout, SMALL_BOARD, Stop};
+use page_text::access_table::AccessTable;
+use report::{Report, write_page};
 use std::io::Write;
 use std::test::*;
 use std::{io, str};
@@ -58,19 +59,45 @@ fn survey_step(machine: &mut Fast, survey: &mut Survey) -> Option<Stop> {
 
 /// Writes the page of two steps of the image into a writer. Returns whether all of it was written.
 fn write_to(rt: &HostRuntime, room: &mut Room, symbols: &Symbols<'_>) -> Result<bool, Fail> {
+    write_with(rt, room, symbols, &Worlds::new(rt.alloc())?, &SMALL_BOARD)
+}
+
+/// Returns the page of two steps of the image, with the worlds of a run on a board.
+pub(super) fn page_with(
+    rt: &HostRuntime,
+    symbols: &Symbols<'_>,
+    worlds: &Worlds,
+    board: &Layout,
+) -> Result<Vec<u8>, Fail> {
+    let mut page = Vec::new(rt.alloc());
+    if write_with(rt, &mut page, symbols, worlds, board)? {
+        Ok(page)
+    } else {
+        Err(Fail::new("a page that is written"))
+    }
+}
+
+/// Writes the page of two steps of the image, with the worlds of a run on a board, into a writer. Returns whether all
+/// of it was written.
+fn write_with<W: Write>(
+    rt: &HostRuntime,
+    out: &mut W,
+    symbols: &Symbols<'_>,
+    worlds: &Worlds,
+    board: &Layout,
+) -> Result<bool, Fail> {
     let alloc = rt.alloc();
-    let board = Board {
+    let small = Board {
         layout: SMALL_BOARD,
         events: Vec::new(alloc),
         devices: Vec::new(alloc),
     };
     let image = load(&IMAGE)?;
-    let mut machine = Fast::new(alloc, &image, &board)?;
+    let mut machine = Fast::new(alloc, &image, &small)?;
     let mut survey = Survey::new(alloc, &SMALL_BOARD)?;
     let _ = survey_step(&mut machine, &mut survey);
     let stop = survey_step(&mut machine, &mut survey);
-    let worlds = Worlds::new(alloc)?;
-    let access_table = AccessTable::of(alloc, &worlds, &SMALL_BOARD)?;
+    let access_table = AccessTable::of(alloc, worlds, board)?;
     let report = Report {
         image: "images/<first>.elf",
         board: "small.toml",
@@ -79,10 +106,10 @@ fn write_to(rt: &HostRuntime, room: &mut Room, symbols: &Symbols<'_>) -> Result<
         survey: &survey,
         machine: &machine,
         symbols,
-        worlds: &worlds,
+        worlds,
         access_table: &access_table,
     };
-    Ok(write_page(room, &report).is_ok())
+    Ok(write_page(out, &report).is_ok())
 }
 
 /// Returns a writer with room for a number of bytes.
@@ -134,15 +161,6 @@ fn a_run_has_a_page(rt: HostRuntime) -> Result<(), Fail> {
     'parts: for part in &PARTS {
         assert!(rt; text.contains(part), "{part}");
     }
-    Ok(())
-}
-
-#[test]
-fn a_page_has_its_first_and_its_last_line(rt: HostRuntime) -> Result<(), Fail> {
-    let mut page = HtmlPage::new(rt.alloc(), 64)?;
-    page.write_all(b"<html>\n")?;
-    let bytes = page.end()?;
-    assert!(rt; bytes.as_slice() == b"<!DOCTYPE html>\n<html>\n</html>\n".as_slice());
     Ok(())
 }
 

@@ -1,6 +1,6 @@
 use Rattle.std.specs.Prelude.{is_ok}
-use Rattle.report.proofs.Whole.{still_begins}
-use Rattle.report.proofs.html_page.HtmlPageWrite.write.Goals as goal
+use Rattle.page_text.proofs.Whole.{still_begins}
+use Rattle.page_text.proofs.html_page.HtmlPageWrite.write.Goals as goal
 
 pub invariant_of-self : goal.invariant_of-self
 invariant_of-self c = record {

@@ -1,6 +1,6 @@
 -- What each page begins and ends with.
 use Rattle.std.specs.Prelude.{◌≡◌, ◌++◌, List, ℕ, codes}
-use Rattle.report.specs.Edges.{page_start}
+use Rattle.page_text.specs.Edges.{page_start}
 
 -- what a page ends with
 abbrev pub page_end : List ℕ
