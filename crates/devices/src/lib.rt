@@ -13,7 +13,7 @@ mod table;
 mod word;
 
 pub use device::{Device, Line, MAX_DEVICES, Poke, Stores};
-pub use devices::{Devices, Stored};
+pub use devices::Devices;
 pub use instruction_set::size::Size;
 pub use level::Level;
 pub use pokes::{NoPokes, Pokes};

@@ -59,14 +59,32 @@ fn uart() -> [Device; 3] {
     [control, status, data]
 }
 
-/// Loads a word.
-fn load(devices: &mut Devices, ticks: u64, address: u32) -> Option<u32> {
-    devices.load(ticks, address, Size::Word)
+/// Loads a part of a word, if a device has it.
+fn load_part(devices: &mut Devices, ticks: u64, address: u32, size: Size) -> Option<u32> {
+    let at = devices.position(address)?;
+    Some(devices.load_at(at, ticks, address, size))
 }
 
-/// Stores a word. Returns the byte that goes to the console, if one does.
+/// Loads a word.
+fn load(devices: &mut Devices, ticks: u64, address: u32) -> Option<u32> {
+    load_part(devices, ticks, address, Size::Word)
+}
+
+/// Stores a part of a word, if a device has it. Returns the byte that goes to the console, if one does.
+fn store_part(
+    devices: &mut Devices,
+    ticks: u64,
+    address: u32,
+    size: Size,
+    value: u32,
+) -> Option<u8> {
+    let at = devices.position(address)?;
+    devices.store_at(at, ticks, address, size, value)
+}
+
+/// Stores a word, likewise.
 fn store(devices: &mut Devices, ticks: u64, address: u32, value: u32) -> Option<u8> {
-    devices.store(ticks, address, Size::Word, value)?.sent
+    store_part(devices, ticks, address, Size::Word, value)
 }
 
 /// Returns the number of the first line, and whether it is high.
@@ -125,14 +143,20 @@ fn a_part_of_a_word_is_stored_and_loaded(rt: HostRuntime) -> Result<(), Fail> {
     let mut word = one_word(0x4001_0000);
     word.zeros = 0xFF00_000F;
     let mut devices = Devices::new(rt.alloc(), &[word])?;
-    devices.store(1, base + 1, Size::Byte, 0xAABB_CCDD);
+    store_part(&mut devices, 1, base + 1, Size::Byte, 0xAABB_CCDD);
     assert_eq!(rt; load(&mut devices, 1, base), Some(0x0000_DD00));
-    devices.store(2, base + 2, Size::Halfword, 0xAABB_CCDD);
+    store_part(&mut devices, 2, base + 2, Size::Halfword, 0xAABB_CCDD);
     assert_eq!(rt; load(&mut devices, 2, base), Some(0x00DD_DD00));
     store(&mut devices, 3, base, 0xAABB_CCDD);
     assert_eq!(rt; load(&mut devices, 3, base), Some(0x00BB_CCD0));
-    assert_eq!(rt; devices.load(4, base + 2, Size::Halfword), Some(0xBB));
-    assert_eq!(rt; devices.load(5, base + 1, Size::Byte), Some(0xCC));
+    assert_eq!(rt;
+        load_part(&mut devices, 4, base + 2, Size::Halfword),
+        Some(0xBB)
+    );
+    assert_eq!(rt;
+        load_part(&mut devices, 5, base + 1, Size::Byte),
+        Some(0xCC)
+    );
     Ok(())
 }
 
@@ -149,8 +173,8 @@ fn ones_and_zeros_clear_only_bits_that_are_covered(rt: HostRuntime) -> Result<()
     store(&mut devices, 2, 0x4001_0404, 0xFFFF_FFFE);
     assert_eq!(rt; load(&mut devices, 2, 0x4001_0400), Some(0xFA));
     assert_eq!(rt; load(&mut devices, 2, 0x4001_0404), Some(0x60));
-    devices.store(3, 0x4001_0401, Size::Byte, 0xFF);
-    devices.store(4, 0x4001_0405, Size::Byte, 0xFF);
+    store_part(&mut devices, 3, 0x4001_0401, Size::Byte, 0xFF);
+    store_part(&mut devices, 4, 0x4001_0405, Size::Byte, 0xFF);
     assert_eq!(rt; load(&mut devices, 4, 0x4001_0400), Some(0xFA));
     assert_eq!(rt; load(&mut devices, 4, 0x4001_0404), Some(0x60));
     Ok(())
@@ -160,14 +184,11 @@ fn ones_and_zeros_clear_only_bits_that_are_covered(rt: HostRuntime) -> Result<()
 fn the_first_byte_of_a_word_goes_to_the_console(rt: HostRuntime) -> Result<(), Fail> {
     let mut devices = Devices::new(rt.alloc(), &uart())?;
     assert_eq!(rt; store(&mut devices, 1, DATA, 0x141), Some(0x41));
-    let second = devices
-        .store(2, DATA + 1, Size::Byte, 0x41)
-        .ok_or("second byte")?;
-    assert_eq!(rt; second.sent, None);
-    let half = devices
-        .store(3, DATA + 2, Size::Halfword, 0x41)
-        .ok_or("upper half")?;
-    assert_eq!(rt; half.sent, None);
+    assert!(rt; devices.have(DATA + 1) && devices.have(DATA + 2));
+    let second = store_part(&mut devices, 2, DATA + 1, Size::Byte, 0x41);
+    assert_eq!(rt; second, None);
+    let half = store_part(&mut devices, 3, DATA + 2, Size::Halfword, 0x41);
+    assert_eq!(rt; half, None);
     assert_eq!(rt; store(&mut devices, 4, CONTROL, 0x41), None);
     assert_eq!(rt; load(&mut devices, 5, DATA), Some(0));
     Ok(())
@@ -186,7 +207,7 @@ fn a_received_byte_is_loaded_and_clears_the_status(rt: HostRuntime) -> Result<()
     };
     devices.poke_all(1, &[data, status]);
     assert_eq!(rt; load(&mut devices, 1, STATUS), Some(0xE0));
-    assert_eq!(rt; devices.load(2, DATA, Size::Byte), Some(0x61));
+    assert_eq!(rt; load_part(&mut devices, 2, DATA, Size::Byte), Some(0x61));
     assert_eq!(rt; load(&mut devices, 3, STATUS), Some(0xC0));
     Ok(())
 }
@@ -280,7 +301,7 @@ fn words_count_the_ticks_from_what_was_stored(rt: HostRuntime) -> Result<(), Fai
         },
     );
     assert_eq!(rt; load(&mut devices, 5, counter), Some(0x50));
-    devices.store(6, counter, Size::Halfword, 8);
+    store_part(&mut devices, 6, counter, Size::Halfword, 8);
     assert_eq!(rt; load(&mut devices, 7, counter), Some(9));
     Ok(())
 }
@@ -302,7 +323,7 @@ fn the_first_device_has_an_address_that_two_have(rt: HostRuntime) -> Result<(), 
     assert_eq!(rt; load(&mut devices, 2, base + 8), Some(9));
     assert_eq!(rt; load(&mut devices, 3, base + 4), Some(5));
     assert_eq!(rt; load(&mut devices, 4, base + 16), None);
-    assert!(rt; devices.store(5, base + 16, Size::Word, 1).is_none());
+    assert!(rt; !devices.have(base + 16));
     Ok(())
 }
 
