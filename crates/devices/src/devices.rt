@@ -1,14 +1,14 @@
 //! The words of a board's devices (profile).
 
 ghost use Rattle.std.specs.Prelude.{◌≡◌, ◌<◌, ◌≤◌, ◌^◌, ◌==◌, ℕ, Some, [], length, option_map, slice_index};
-ghost use Rattle.std.specs.Prelude.{not, true, false, IfOk, IfSome};
+ghost use Rattle.std.specs.Prelude.{true, false, IfOk, IfSome};
 ghost use Rattle.instruction_set.specs.Sizes.{bytes_in};
 ghost use Rattle.devices.specs.Table.{has, place};
 ghost use Rattle.devices.specs.Copies.{HaveSameDevices};
 ghost use Rattle.devices.specs.Devices.{after_store_at, at_start, content_at, fresh, loaded, poked, poked_by};
 ghost use Rattle.devices.specs.Devices.{position_from, read_at, sent_at, value_at, with_content, word_at};
-ghost use Rattle.devices.specs.Lines.{are_lined, levels};
-ghost use Rattle.devices.specs.Laws.{have};
+ghost use Rattle.devices.specs.Lines.{has_lines, levels};
+ghost use Rattle.devices.specs.Laws.{has_device_at};
 ghost use Rattle.devices.specs.Pokes.{poked_all};
 
 use crate::apart::are_apart;
@@ -57,7 +57,7 @@ impl Model for Devices {
     ghost use Rattle.std.specs.Prelude.{List, ◌≡◌, ◌≤◌, length};
     ghost use Rattle.devices.specs.Devices.{DeviceWords as State};
     ghost use Rattle.devices.specs.Laws.{AreWhole};
-    ghost use Rattle.devices.specs.Lines.{are_lined};
+    ghost use Rattle.devices.specs.Lines.{has_lines};
     ghost use Rattle.devices.specs.Apart.{are_apart};
 
     ghost Value = { List State };
@@ -65,14 +65,7 @@ impl Model for Devices {
     ghost view = { λ d. d.devices.items };
 
     ghost invariant = { λ d. (length d.devices.items ≤ 256) × AreWhole d.devices.items
-        × (d.lined ≡ are_lined d.devices.items) × (d.apart ≡ are_apart d.devices.items) };
-}
-
-/// What a store to a device sends.
-#[derive(Clone, Copy)]
-pub struct Stored {
-    /// The byte that goes to the console, if one does.
-    pub sent: Option<u8>,
+        × (d.lined ≡ has_lines d.devices.items) × (d.apart ≡ are_apart d.devices.items) };
 }
 
 impl Devices {
@@ -89,7 +82,7 @@ impl Devices {
         'devices: for device in table {
             devices.push(DeviceWords::at_start(alloc, device)?)?;
         }
-        let lined = are_lined(devices.as_slice());
+        let lined = has_lines(devices.as_slice());
         let apart = are_apart(devices.as_slice());
         Ok(Devices {
             devices,
@@ -133,34 +126,30 @@ impl Devices {
         self.devices.as_slice()
     }
 
-    /// Returns whether there is a device.
+    /// Returns whether there is no device.
     #[inline]
-    pub fn are_any(&self) -> bool
-        ensures { result ≡ not (length self.now == 0) }
+    pub fn is_empty(&self) -> bool
+        ensures { result ≡ (length self.now == 0) }
     {
-        !self.devices.is_empty()
+        self.devices.is_empty()
     }
 
     /// Returns whether a device has a line. Where none has, there are no levels.
     #[inline]
     #[tactic(auto, using(crate::proofs::Lined::none_lined))]
-    pub fn are_lined(&self) -> bool
-        ensures value { result ≡ are_lined self.now }
+    pub fn has_lines(&self) -> bool
+        ensures value { result ≡ has_lines self.now }
         ensures none { (ticks : ℕ) → result ≡ false → levels self.now ticks ≡ [] }
     {
         self.lined
     }
 
     /// Returns whether a device has an address.
-    pub fn have(&self, address: u32) -> bool
-        ensures { result ≡ have self.now address }
+    #[tactic(auto, using(crate::proofs::Positions::some_position))]
+    pub fn has_device_at(&self, address: u32) -> bool
+        ensures { result ≡ has_device_at self.now address }
     {
-        'devices: for device in self.devices.as_slice() {
-            if device.device.has(address) {
-                return true;
-            }
-        }
-        false
+        self.position(address).is_some()
     }
 
     /// Returns the device that has an address, with what is stored in the word there.
@@ -215,17 +204,31 @@ impl Devices {
     pub(crate) fn value_after<P: Pokes>(&self, ticks: u64, pokes: &P, address: u32) -> Option<u32>
         ensures { result ≡ value_at (poked_all self.now ticks (P.pokes pokes.now)) ticks address }
     {
-        match self.word_after(ticks, pokes, address) {
-            Some((device, stored)) => {
-                let content = content_of(device, ticks, stored);
-                let followed = match device.of {
-                    Some(of) => self.content_after(ticks, pokes, of),
-                    None => content,
-                };
-                Some(value_of(device, content, followed))
-            }
-            None => None,
-        }
+        let (device, stored) = self.word_after(ticks, pokes, address)?;
+        Some(self.value_in(ticks, pokes, address, device, stored))
+    }
+
+    /// Returns the value of the word at an address after this many ticks and pokes of the last of them, from its device
+    /// and what is stored in it then.
+    #[inline]
+    fn value_in<P: Pokes>(
+        &self,
+        ticks: u64,
+        pokes: &P,
+        address: u32,
+        device: &Device,
+        stored: u32,
+    ) -> u32
+        requires { word_at (poked_all self.now ticks (P.pokes pokes.now)) address
+            ≡ Some (record { device = device.now; stored = stored }) }
+        ensures { value_at (poked_all self.now ticks (P.pokes pokes.now)) ticks address ≡ Some result }
+    {
+        let content = content_of(device, ticks, stored);
+        let followed = match device.of {
+            Some(of) => self.content_after(ticks, pokes, of),
+            None => content,
+        };
+        value_of(device, content, followed)
     }
 
     /// Returns the value of the word at an address after this many ticks, if a device has it.
@@ -246,19 +249,6 @@ impl Devices {
         }
     }
 
-    /// Loads from an address, if a device has it, and then pokes what its load pokes.
-    #[tactic(auto, using(crate::proofs::Positions::none_word))]
-    pub fn load(&mut self, ticks: u64, address: u32, size: Size) -> Option<u32>
-        ensures value { result ≡ read_at self.old ticks address size }
-        ensures small { IfSome result (λ value. value < 256 ^ bytes_in size) }
-        ensures after { self.new ≡ loaded self.old ticks address }
-    {
-        match self.position(address) {
-            Some(at) => Some(self.load_at(at, ticks, address, size)),
-            None => None,
-        }
-    }
-
     /// Loads from an address that the device of this number has, the first that has it, and then pokes what its load
     /// pokes.
     #[tactic(auto, using(crate::proofs::Positions::first_below))]
@@ -270,29 +260,10 @@ impl Devices {
     {
         let (device, stored) = self.word_of(at, address);
         let poke = device.load_poke;
-        let content = content_of(device, ticks, stored);
-        let followed = match device.of {
-            Some(of) => self.content_after(ticks, &NoPokes, of),
-            None => content,
-        };
-        let value = value_of(device, content, followed);
+        let value = self.value_in(ticks, &NoPokes, address, device, stored);
         self.keep_near(at, address);
         self.poke_by(ticks, poke);
         part(address, size, value)
-    }
-
-    /// Stores to an address, if a device has it, and then pokes what its store pokes.
-    #[tactic(auto, using(crate::proofs::Positions::none_word))]
-    pub fn store(&mut self, ticks: u64, address: u32, size: Size, value: u32) -> Option<Stored>
-        ensures sent { option_map (λ s. s.sent) result ≡ sent_at self.old address value }
-        ensures after { self.new ≡ after_store_at self.old ticks address size value }
-    {
-        match self.position(address) {
-            Some(at) => Some(Stored {
-                sent: self.store_at(at, ticks, address, size, value),
-            }),
-            None => None,
-        }
     }
 
     /// Stores to an address that the device of this number has, the first that has it, and then pokes what its store
@@ -416,8 +387,8 @@ fn place_near(address: u32) -> usize
 }
 
 /// Returns whether one of some devices has a line.
-fn are_lined(devices: &[DeviceWords]) -> bool
-    ensures { result ≡ are_lined devices.now }
+fn has_lines(devices: &[DeviceWords]) -> bool
+    ensures { result ≡ has_lines devices.now }
 {
     'devices: for device in devices {
         if device.device.line.is_some() {

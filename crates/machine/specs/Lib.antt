@@ -1,8 +1,8 @@
-pub use Rattle.task_laws.specs.Foresight
+pub use Rattle.task_laws.specs.NextStep
 pub use Rattle.trace.specs.Selection
-pub use Rattle.access.specs.Seen as WordsSeen
+pub use Rattle.access.specs.Peek as PeekedWords
 pub mod Runs
-pub mod Seen
+pub mod Peek
 pub mod Selected
 pub mod Starts
 pub mod TaskRunLaw
@@ -13,3 +13,4 @@ pub mod Fetched
 pub mod Kept
 pub mod Permits
 pub mod Quiet
+pub mod MadeSteps

@@ -1,5 +1,6 @@
 mod accesses;
 mod boards;
+mod device_accesses;
 mod device_tables;
 mod device_values;
 mod images;
