@@ -20,6 +20,3 @@ pub use mpu::Span;
 pub use sharing::{are_apart, shared};
 pub use world::{Place, Rights, World, places};
 pub use world_lines::{others_line, world_line};
-
-#[cfg(test)]
-mod tests;

@@ -52,6 +52,15 @@ impl SysTickState for LazySysTick {
         now + 1 < self.due
     }
 
+    #[inline(always)]
+    fn quiet_until(&self) -> u64 {
+        self.due.saturating_sub(1)
+    }
+
+    #[inline(always)]
+    #[tactic(auto, using(crate::proofs::Counts::after_tick_since))]
+    fn pass(&mut self, _now: u64) {}
+
     fn systick(&self, now: u64) -> SysTick {
         self.stored.after_ticks(now - self.since)
     }

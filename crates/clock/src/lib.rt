@@ -2,9 +2,9 @@
 //! timer, SysTick"; the rest is this project's profile).
 #![tactic(auto)]
 
-ghost use Rattle.std.specs.Prelude.{◌≡◌, ◌↔◌, ℕ, ◌+◌, ◌^◌, ◌<◌, ◌≤◌, [], true, false, IfOk, IsTrue};
+ghost use Rattle.std.specs.Prelude.{◌≡◌, ◌↔◌, ℕ, ◌+◌, ◌-◌, ◌^◌, ◌<◌, ◌≤◌, [], true, false, IfOk, IfSome, IsTrue};
 ghost use Rattle.clock.specs.DueTick.{DueTickIsExact, IsBeforeDueTick};
-ghost use Rattle.platform.specs.Time.{time_after_tick, counted, events_at, tick_pends, script_due};
+ghost use Rattle.platform.specs.Time.{time_after_tick, counted, events_at, tick_pends, script_due, due_of};
 ghost use Rattle.platform.specs.Time.{passed, is_high, start_time, csr, after_csr_read, with_csr};
 ghost use Rattle.platform.specs.Time.{pends, with_events, with_rvr, with_cvr_cleared, with_signal, IsSetOf};
 
@@ -27,9 +27,6 @@ use std::alloc::{AllocError, Global};
 use std::marker::Model;
 pub use systick_state::{EagerSysTick, SysTickState};
 pub use timer::SysTick;
-
-#[cfg(test)]
-mod tests;
 
 /// Time. A contract sees it as the reference's `Time`, and beside it the tick that it keeps as the
 /// next one at which something is due.
@@ -190,6 +187,29 @@ impl<U: SysTickState> Clock<U> {
             return true;
         }
         false
+    }
+
+    /// Returns for how many ticks from now on nothing is due, by the due tick that is kept; 0 if that isn't known.
+    #[inline]
+    #[tactic(auto, using(crate::proofs::Quiet::right_until))]
+    pub fn quiet_ticks(&self) -> u64
+        ensures quiet { DueTickIsExact self.now → 0 < result → self.now.time.ticks + result < due_of self.now.time }
+        ensures last { IfSome self.now.due (λ due. result ≡ due - 1 - self.now.time.ticks) }
+    {
+        self.timer.quiet_until().saturating_sub(self.ticks)
+    }
+
+    /// Makes the next tick, at which nothing is due.
+    #[inline(always)]
+    #[tactic(auto, using(crate::proofs::Quiet::passing))]
+    pub fn pass(&mut self)
+        requires right { DueTickIsExact self.old }
+        requires before { self.old.time.ticks + 1 < due_of self.old.time }
+        ensures time { self.new.time ≡ passed self.old.time }
+        ensures right { DueTickIsExact self.new }
+    {
+        self.timer.pass(self.ticks);
+        self.ticks += 1;
     }
 
     /// Makes the next tick, whatever is due at it. Returns the exceptions that it pends.

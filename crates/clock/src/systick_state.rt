@@ -1,8 +1,8 @@
 //! How a clock counts: on each tick, or only where something is due.
 
-ghost use Rattle.std.specs.Prelude.{◌≡◌, ℕ, ◌+◌, ◌^◌, ◌<◌, ◌≤◌, Option, None, true, IfSome};
+ghost use Rattle.std.specs.Prelude.{◌≡◌, ℕ, ◌+◌, ◌-◌, ◌^◌, ◌<◌, ◌≤◌, Option, None, true, false, IfSome};
 ghost use Rattle.clock.specs.DueTick.{is_before};
-ghost use Rattle.platform.specs.Time.{SysTick as Timer, counted, next_current, next_due, reset_systick};
+ghost use Rattle.platform.specs.Time.{SysTick as Timer, counted, next_current, next_due, reset_systick, reaches_zero};
 
 use crate::timer::SysTick;
 use std::marker::Model;
@@ -35,6 +35,22 @@ pub trait SysTickState: Drop {
         ensures answer { result ≡ is_before (now + 1) (due self.now) }
         ensures passes { result ≡ true → systick_at self.now (now + 1)
             ≡ record (systick_at self.now now) { current = next_current (systick_at self.now now) } };
+
+    /// Returns a tick before the due tick, the last of them; 0 if no due tick is kept.
+    fn quiet_until(&self) -> u64
+        ensures before { 0 < result → is_before result (due self.now) ≡ true }
+        ensures last { IfSome (due self.now) (λ tick. result ≡ tick - 1) };
+
+    /// Makes the next tick, at which nothing is due.
+    fn pass(&mut self, now: u64)
+        requires known { since self.old ≤ now }
+        requires bounded { now < 2 ^ 48 }
+        requires counts { reaches_zero (systick_at self.old now) ≡ false }
+        requires before { IfSome (due self.old) (λ tick. now + 1 < tick) }
+        ensures systick { systick_at self.new (now + 1)
+            ≡ record (systick_at self.old now) { current = next_current (systick_at self.old now) } }
+        ensures since { since self.new ≤ now + 1 }
+        ensures due { due self.new ≡ due self.old };
 
     /// SysTick at a tick.
     fn systick(&self, now: u64) -> SysTick
@@ -81,6 +97,16 @@ impl SysTickState for EagerSysTick {
     #[inline]
     fn is_quiet_after(&self, _now: u64) -> bool {
         false
+    }
+
+    #[inline(always)]
+    fn quiet_until(&self) -> u64 {
+        0
+    }
+
+    #[inline(always)]
+    fn pass(&mut self, _now: u64) {
+        self.systick.count();
     }
 
     #[inline]

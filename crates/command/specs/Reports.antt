@@ -15,7 +15,7 @@ use Rattle.platform.specs.Boards.{Described}
 use Rattle.platform.specs.Images.{Segment}
 use Rattle.reference.specs.Run.{ending_of}
 use Rattle.reference.specs.State.{State}
-use Rattle.report.specs.Pages.{IsPage}
+use Rattle.page_text.specs.Pages.{IsPage}
 
 -- a whole page went out
 pub record SendsPage (old new : Writing) : Type 0 where

@@ -8,15 +8,14 @@ mod dumps;
 mod refusals;
 mod stops;
 mod subcommands;
-#[cfg(test)]
-mod tests;
 mod texts;
 mod words;
 
+pub use commands::{LIMIT_HELP, MAX_STEPS, STEPS_HELP};
 pub use dumps::Dump;
 pub use stops::{have_same_words, words_in};
 pub use subcommands::{
-    DebugOptions, GdbOptions, ReportOptions, RunOptions, Subcommand, TasksOptions,
+    DebugOptions, GdbOptions, ReportOptions, RunOptions, STEPS_ADVICE, Subcommand, TasksOptions,
 };
 pub use texts::AFTER_DEBUG;
 pub use words::{WordsError, subcommand_of};

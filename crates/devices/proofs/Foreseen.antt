@@ -14,9 +14,8 @@ use Rattle.devices.specs.Lines.{are_lined, levels_by}
 use Rattle.devices.specs.Pokes.{last_poke, poked_all}
 use Rattle.devices.specs.Table.{has, place}
 use Rattle.devices.specs.Words.{stored_for}
-use Rattle.devices.proofs.Lined.{lined_poked}
 use Rattle.devices.proofs.Positions.{first_pokes}
-use Rattle.devices.proofs.Separate.{apart_poked}
+use Rattle.devices.proofs.Same.{same_apart, same_levels, same_lined, same_poked}
 use Rattle.std.proofs.lemmas.List.{length-replicate}
 
 begins_below : (t : Device) (a : ℕ) → has t a ≡ true → t.base ≤ a
@@ -211,26 +210,18 @@ Fit lined apart ds = (length ds ≤ 256) × AreWhole ds × (lined ≡ are_lined 
 pub put_fits : (lined apart : Bool) (ds : List DeviceWords) (ticks a v j : ℕ) (d x : DeviceWords) →
     position_from 0 ds a ≡ Some j → x ≡ with_content (slice_index_or ds j d) ticks a v → Fit lined apart ds →
     Fit lined apart (slice_set ds j x)
-put_fits lined apart ds ticks a v j d x first e fits = (
-  (let same = length-set ds j x in rw same fits.0),
-  rw (e, first_pokes ds ticks a v j d first) (poke_whole ds ticks a v fits.1),
-  rw (e, first_pokes ds ticks a v j d first) (fits.2 ∙ sym (lined_poked ds ticks a v)),
-  rw (e, first_pokes ds ticks a v j d first) (fits.3 ∙ sym (apart_poked ds ticks a v)),
-)
+put_fits lined apart ds ticks a v j d x first e fits =
+    let same = same_poked ds ticks a v in (
+      (let length_is = length-set ds j x in rw length_is fits.0),
+      rw (e, first_pokes ds ticks a v j d first) (poke_whole ds ticks a v fits.1),
+      rw (e, first_pokes ds ticks a v j d first) (fits.2 ∙ sym (same_lined _ ds same)),
+      rw (e, first_pokes ds ticks a v j d first) (fits.3 ∙ sym (same_apart _ ds same)),
+    )
 
 -- pokes leave the devices, on which the lines are
-levels_poked : (f : ℕ → Option ℕ) (ds : List DeviceWords) (ticks b v : ℕ) →
-    levels_by f (poked ds ticks b v) ≡ levels_by f ds
-levels_poked f [] ticks b v = refl
-levels_poked f (d ∷ ds) ticks b v = by (has d.device b) refl (levels_poked f ds ticks b v)
-  where
-    by : (x : Bool) → has d.device b ≡ x → levels_by f (poked ds ticks b v) ≡ levels_by f ds →
-        levels_by f (poked (d ∷ ds) ticks b v) ≡ levels_by f (d ∷ ds)
-    by true h rest = rw h refl
-    by false h rest = rw (h, rest) refl
-
 pub levels_stay : (f : ℕ → Option ℕ) (ds : List DeviceWords) (ticks : ℕ) (ps : List Poke) →
     levels_by f (poked_all ds ticks ps) ≡ levels_by f ds
 levels_stay f ds ticks [] = refl
 levels_stay f ds ticks (p ∷ ps) =
-    levels_stay f (poked ds ticks p.address p.value) ticks ps ∙ levels_poked f ds ticks p.address p.value
+    levels_stay f (poked ds ticks p.address p.value) ticks ps
+    ∙ same_levels f _ ds (same_poked ds ticks p.address p.value)

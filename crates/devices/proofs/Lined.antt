@@ -1,19 +1,8 @@
 -- Whether a device has a line.
-use Rattle.std.proofs.Common.{◌≡◌, ℕ, Bool, true, false, List, [], ◌∷◌, Option, Some, None, refl}
+use Rattle.std.proofs.Common.{◌≡◌, ℕ, false, List, [], ◌∷◌, Option, Some, None, refl}
 use Rattle.devices.specs.declared.device.Line.{Line}
-use Rattle.devices.specs.Devices.{DeviceWords, poked, value_at}
+use Rattle.devices.specs.Devices.{DeviceWords, value_at}
 use Rattle.devices.specs.Lines.{are_lined, levels, levels_by}
-use Rattle.devices.specs.Table.{has}
-
--- pokes leave the devices, on which the lines are
-pub lined_poked : (ds : List DeviceWords) (ticks a v : ℕ) → are_lined (poked ds ticks a v) ≡ are_lined ds
-lined_poked [] ticks a v = refl
-lined_poked (d ∷ ds) ticks a v = by (has d.device a) refl (lined_poked ds ticks a v)
-  where
-    by : (x : Bool) → has d.device a ≡ x → are_lined (poked ds ticks a v) ≡ are_lined ds →
-        are_lined (poked (d ∷ ds) ticks a v) ≡ are_lined (d ∷ ds)
-    by true h rest = rw h refl
-    by false h rest = rw (h, rest) refl
 
 -- devices without lines have no levels
 no_levels : (f : ℕ → Option ℕ) (ds : List DeviceWords) → are_lined ds ≡ false → levels_by f ds ≡ []

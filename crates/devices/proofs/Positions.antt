@@ -1,58 +1,50 @@
 -- The first device that has an address.
-use Rattle.std.proofs.Common.{◌≡◌, ℕ, suc, ◌+◌, ◌<◌, Bool, true, false, List, [], ◌∷◌, length}
+use Rattle.std.proofs.Common.{◌≡◌, ℕ, suc, ◌+◌, ◌<◌, Bool, true, false, ◌||◌, if◌then◌else◌, List, [], ◌∷◌, length}
 use Rattle.std.proofs.Common.{slice_set, slice_index, slice_index_or}
-use Rattle.std.proofs.Common.{Some, None, refl, ap, arith, subst}
+use Rattle.std.proofs.Common.{Some, None, is_some, refl, sym, ◌∙◌, ap, arith, subst}
+use Rattle.std.proofs.lemmas.Bool.{or_parts}
 use Rattle.devices.specs.Devices.{DeviceWords, Word, poked, position_from, with_content, word_at}
 use Rattle.devices.specs.Laws.{have}
 use Rattle.devices.specs.Table.{has, place}
 
--- where there is none, nothing is poked
-pub none_poked : (k : ℕ) (ds : List DeviceWords) (ticks a v : ℕ) → position_from k ds a ≡ None → poked ds ticks a v ≡ ds
-none_poked k [] ticks a v e = refl
-none_poked k (d ∷ ds) ticks a v e = by_has (has d.device a) refl (none_poked (suc k) ds ticks a v)
-  where
-    by_has : (b : Bool) → has d.device a ≡ b → (position_from (suc k) ds a ≡ None → poked ds ticks a v ≡ ds) →
-        poked (d ∷ ds) ticks a v ≡ d ∷ ds
-    by_has true h rest = absurd cc (rw h at e)
-    by_has false h rest = rw h (ap (λ tail. d ∷ tail) (rest (rw h at e)))
-
--- and there is no word
-none_word_from : (k : ℕ) (ds : List DeviceWords) (a : ℕ) → position_from k ds a ≡ None → word_at ds a ≡ None
-none_word_from k [] a e = refl
-none_word_from k (d ∷ ds) a e = by_has (has d.device a) refl (none_word_from (suc k) ds a)
-  where
-    by_has : (b : Bool) → has d.device a ≡ b → (position_from (suc k) ds a ≡ None → word_at ds a ≡ None) →
-        word_at (d ∷ ds) a ≡ None
-    by_has true h rest = absurd cc (rw h at e)
-    by_has false h rest = rw h (rest (rw h at e))
-
-pub none_word : (ds : List DeviceWords) (a : ℕ) → position_from 0 ds a ≡ None → word_at ds a ≡ None
-none_word ds a e = none_word_from 0 ds a e
-
 -- a number is found where a device has the address
-none_have_from : (k : ℕ) (ds : List DeviceWords) (a : ℕ) → position_from k ds a ≡ None → have ds a ≡ false
-none_have_from k [] a e = refl
-none_have_from k (d ∷ ds) a e = by_has (has d.device a) refl (none_have_from (suc k) ds a)
+position_found : (k : ℕ) (ds : List DeviceWords) (a : ℕ) → is_some (position_from k ds a) ≡ have ds a
+position_found k [] a = refl
+position_found k (d ∷ ds) a = by_has (has d.device a) (position_found (suc k) ds a)
   where
-    by_has : (b : Bool) → has d.device a ≡ b → (position_from (suc k) ds a ≡ None → have ds a ≡ false) →
-        have (d ∷ ds) a ≡ false
-    by_has true h rest = absurd cc (rw h at e)
-    by_has false h rest = rw h (rest (rw h at e))
+    by_has : (b : Bool) → is_some (position_from (suc k) ds a) ≡ have ds a →
+        is_some (if b then Some k else position_from (suc k) ds a) ≡ (b || have ds a)
+    by_has true rest = refl
+    by_has false rest = rest
+
+pub some_position : (ds : List DeviceWords) (a : ℕ) → is_some (position_from 0 ds a) ≡ have ds a
+some_position ds a = position_found 0 ds a
 
 pub none_have : (ds : List DeviceWords) (a : ℕ) → position_from 0 ds a ≡ None → have ds a ≡ false
-none_have ds a e = none_have_from 0 ds a e
-
-first_has_from : (k : ℕ) (ds : List DeviceWords) (a j : ℕ) → position_from k ds a ≡ Some j → have ds a ≡ true
-first_has_from k [] a j e = absurd cc
-first_has_from k (d ∷ ds) a j e = by_has (has d.device a) refl (first_has_from (suc k) ds a j)
-  where
-    by_has : (b : Bool) → has d.device a ≡ b → (position_from (suc k) ds a ≡ Some j → have ds a ≡ true) →
-        have (d ∷ ds) a ≡ true
-    by_has true h rest = rw h refl
-    by_has false h rest = rw h (rest (rw h at e))
+none_have ds a e = sym (some_position ds a) ∙ ap is_some e
 
 pub first_has : (ds : List DeviceWords) (a j : ℕ) → position_from 0 ds a ≡ Some j → have ds a ≡ true
-first_has ds a j e = first_has_from 0 ds a j e
+first_has ds a j e = sym (some_position ds a) ∙ ap is_some e
+
+-- where there is none, nothing is poked
+pub none_poked : (ds : List DeviceWords) (ticks a v : ℕ) → position_from 0 ds a ≡ None → poked ds ticks a v ≡ ds
+none_poked ds ticks a v e = stays ds (none_have ds a e)
+  where
+    stays : (ds : List DeviceWords) → have ds a ≡ false → poked ds ticks a v ≡ ds
+    stays [] none = refl
+    stays (d ∷ ds) none =
+        let (here, rest) = or_parts (has d.device a) (have ds a) none in
+        rw here (ap (λ tail. d ∷ tail) (stays ds rest))
+
+-- and there is no word
+pub none_word : (ds : List DeviceWords) (a : ℕ) → position_from 0 ds a ≡ None → word_at ds a ≡ None
+none_word ds a e = none_there ds (none_have ds a e)
+  where
+    none_there : (ds : List DeviceWords) → have ds a ≡ false → word_at ds a ≡ None
+    none_there [] none = refl
+    none_there (d ∷ ds) none =
+        let (here, rest) = or_parts (has d.device a) (have ds a) none in
+        rw here (none_there ds rest)
 
 -- the word at an address in a device
 abbrev word_in : DeviceWords → ℕ → Word

@@ -68,13 +68,6 @@ impl Model for Devices {
         × (d.lined ≡ are_lined d.devices.items) × (d.apart ≡ are_apart d.devices.items) };
 }
 
-/// What a store to a device sends.
-#[derive(Clone, Copy)]
-pub struct Stored {
-    /// The byte that goes to the console, if one does.
-    pub sent: Option<u8>,
-}
-
 impl Devices {
     /// Returns the devices of a board at the start. Fails where memory can't be allocated, and where there are more
     /// than 256.
@@ -152,15 +145,11 @@ impl Devices {
     }
 
     /// Returns whether a device has an address.
+    #[tactic(auto, using(crate::proofs::Positions::some_position))]
     pub fn have(&self, address: u32) -> bool
         ensures { result ≡ have self.now address }
     {
-        'devices: for device in self.devices.as_slice() {
-            if device.device.has(address) {
-                return true;
-            }
-        }
-        false
+        self.position(address).is_some()
     }
 
     /// Returns the device that has an address, with what is stored in the word there.
@@ -215,17 +204,31 @@ impl Devices {
     pub(crate) fn value_after<P: Pokes>(&self, ticks: u64, pokes: &P, address: u32) -> Option<u32>
         ensures { result ≡ value_at (poked_all self.now ticks (P.pokes pokes.now)) ticks address }
     {
-        match self.word_after(ticks, pokes, address) {
-            Some((device, stored)) => {
-                let content = content_of(device, ticks, stored);
-                let followed = match device.of {
-                    Some(of) => self.content_after(ticks, pokes, of),
-                    None => content,
-                };
-                Some(value_of(device, content, followed))
-            }
-            None => None,
-        }
+        let (device, stored) = self.word_after(ticks, pokes, address)?;
+        Some(self.value_in(ticks, pokes, address, device, stored))
+    }
+
+    /// Returns the value of the word at an address after this many ticks and pokes of the last of them, from its device
+    /// and what is stored in it then.
+    #[inline]
+    fn value_in<P: Pokes>(
+        &self,
+        ticks: u64,
+        pokes: &P,
+        address: u32,
+        device: &Device,
+        stored: u32,
+    ) -> u32
+        requires { word_at (poked_all self.now ticks (P.pokes pokes.now)) address
+            ≡ Some (record { device = device.now; stored = stored }) }
+        ensures { value_at (poked_all self.now ticks (P.pokes pokes.now)) ticks address ≡ Some result }
+    {
+        let content = content_of(device, ticks, stored);
+        let followed = match device.of {
+            Some(of) => self.content_after(ticks, pokes, of),
+            None => content,
+        };
+        value_of(device, content, followed)
     }
 
     /// Returns the value of the word at an address after this many ticks, if a device has it.
@@ -246,19 +249,6 @@ impl Devices {
         }
     }
 
-    /// Loads from an address, if a device has it, and then pokes what its load pokes.
-    #[tactic(auto, using(crate::proofs::Positions::none_word))]
-    pub fn load(&mut self, ticks: u64, address: u32, size: Size) -> Option<u32>
-        ensures value { result ≡ read_at self.old ticks address size }
-        ensures small { IfSome result (λ value. value < 256 ^ bytes_in size) }
-        ensures after { self.new ≡ loaded self.old ticks address }
-    {
-        match self.position(address) {
-            Some(at) => Some(self.load_at(at, ticks, address, size)),
-            None => None,
-        }
-    }
-
     /// Loads from an address that the device of this number has, the first that has it, and then pokes what its load
     /// pokes.
     #[tactic(auto, using(crate::proofs::Positions::first_below))]
@@ -270,29 +260,10 @@ impl Devices {
     {
         let (device, stored) = self.word_of(at, address);
         let poke = device.load_poke;
-        let content = content_of(device, ticks, stored);
-        let followed = match device.of {
-            Some(of) => self.content_after(ticks, &NoPokes, of),
-            None => content,
-        };
-        let value = value_of(device, content, followed);
+        let value = self.value_in(ticks, &NoPokes, address, device, stored);
         self.keep_near(at, address);
         self.poke_by(ticks, poke);
         part(address, size, value)
-    }
-
-    /// Stores to an address, if a device has it, and then pokes what its store pokes.
-    #[tactic(auto, using(crate::proofs::Positions::none_word))]
-    pub fn store(&mut self, ticks: u64, address: u32, size: Size, value: u32) -> Option<Stored>
-        ensures sent { option_map (λ s. s.sent) result ≡ sent_at self.old address value }
-        ensures after { self.new ≡ after_store_at self.old ticks address size value }
-    {
-        match self.position(address) {
-            Some(at) => Some(Stored {
-                sent: self.store_at(at, ticks, address, size, value),
-            }),
-            None => None,
-        }
     }
 
     /// Stores to an address that the device of this number has, the first that has it, and then pokes what its store

@@ -13,11 +13,8 @@ mod table;
 mod word;
 
 pub use device::{Device, Line, MAX_DEVICES, Poke, Stores};
-pub use devices::{Devices, Stored};
+pub use devices::Devices;
 pub use instruction_set::size::Size;
 pub use level::Level;
 pub use pokes::{NoPokes, Pokes};
 pub use table::device_at;
-
-#[cfg(test)]
-mod tests;

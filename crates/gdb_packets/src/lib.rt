@@ -15,6 +15,3 @@ pub use numbers::{number, two_numbers};
 pub use packets::{Packet, PointKind, Request, read_packet};
 pub use parts::{Parts, parted};
 pub use replies::{put_digits, put_packet};
-
-#[cfg(test)]
-mod tests;

@@ -35,6 +35,3 @@ pub use texts::{explanation, monitor_help, why_text};
 pub use threads::{Activity, put_thread};
 pub use transfers::{description, put_hex_number, put_memory_map, put_piece};
 pub use watchpoints::{MAX_WATCHPOINTS, WatchHit, Watchpoint, Watchpoints};
-
-#[cfg(test)]
-mod tests;

@@ -4,10 +4,12 @@ pub mod Fetching
 mod Foreseen
 mod Known
 mod Loading
+mod ManySteps
 mod Micros
 mod Modes
 mod Permitted
 pub mod Running
+mod QuietRuns
 mod StepBounds
 pub mod Selecting
 mod Tasking

@@ -13,3 +13,5 @@ pub mod Fetched
 pub mod Kept
 pub mod Permits
 pub mod Quiet
+pub mod GoingAtOnce
+pub mod MadeSteps

@@ -9,6 +9,7 @@ mod lists;
 mod machine;
 mod permit;
 mod placing;
+mod quick;
 pub mod readers;
 mod run;
 mod seeing;

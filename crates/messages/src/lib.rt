@@ -9,6 +9,3 @@ pub mod visible;
 
 pub use messages::Messages;
 pub use quoted::{Escaped, Quoted};
-
-#[cfg(test)]
-mod tests;

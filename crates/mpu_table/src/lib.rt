@@ -6,6 +6,7 @@ mod boundaries;
 mod fetches;
 mod interval;
 mod kept_decisions;
+mod places;
 mod search;
 mod sweep;
 mod table;

@@ -1,5 +1,5 @@
 -- The text of a step's events of the selected kinds, put event by event.
-use Rattle.std.proofs.Common.{◌≡◌, ℕ, ◌+◌, ◌-◌, ◌<◌, Bool, true, false, List, [], ◌∷◌, ◌++◌, length, take, drop, Option}
+use Rattle.std.proofs.Common.{◌≡◌, ℕ, ◌+◌, ◌-◌, ◌*◌, ◌<◌, ◌≤◌, Bool, true, false, List, [], ◌∷◌, ◌++◌, length, take, drop, Option}
 use Rattle.std.proofs.Common.{Some, None, refl, sym, ap, ◌∙◌, append_assoc, length-append}
 use Rattle.std.proofs.Common.{length-drop, arith, get_or}
 use Rattle.std.proofs.KnownBytes.{Appends-nil, Appends-trans}
@@ -169,6 +169,14 @@ pub one_byte_more : {O : Type 0} (selection : TraceSelection) (writing : O → W
     → last ≡ last_printed selection (emission writing name new later).events
 one_byte_more selection writing name old new items later e last is ends =
     rw (is, one_more writing name old new items e) ends
+
+-- one event more takes the room of a line
+pub fits_more : {O : Type 0} (writing : O → Writing) (name : ℕ) (old new : O) (items later : List (O × Event))
+    (e : Event) (before after : ℕ) → later ≡ items ++ (old, e) ∷ []
+    → 0xB00 ≤ before + 64 * length (emission writing name old items).events → before ≤ after + 64
+    → 0xB00 ≤ after + 64 * length (emission writing name new later).events
+fits_more writing name old new items later e before after is fits less =
+    rw (is, one_more writing name old new items e, length-append) (omega (arith, fits, less))
 
 -- ---- the events of a step that is over
 

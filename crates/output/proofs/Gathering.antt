@@ -1,9 +1,9 @@
 -- Lines that wait on a page, after the bytes that a writer took.
-use Rattle.std.proofs.Common.{◌≡◌, ℕ, ◌+◌, ◌<◌, List, [], ◌∷◌, length, take, drop, Option, Result, Ok, Err, refl}
-use Rattle.std.proofs.Common.{sym, ◌∙◌, arith, length-append}
+use Rattle.std.proofs.Common.{◌≡◌, ℕ, ◌+◌, ◌<◌, ◌≤◌, List, [], ◌∷◌, ◌++◌, length, take, drop, Option, Some, None}
+use Rattle.std.proofs.Common.{Result, Ok, Err, refl, sym, ap, ◌∙◌, append_assoc, arith, length-append}
 use Rattle.std.proofs.KnownBytes.{Appends-nil, Appends-kept, Keeps-trans, append_known-kept, append_known-moved}
 use Rattle.std.proofs.KnownBytes.{append_known-passed}
-use Rattle.std.proofs.lemmas.List.{take-append-drop, drop-drop, append-nil}
+use Rattle.std.proofs.lemmas.List.{take-append-drop, drop-append-le, drop-drop, append-nil}
 use Rattle.std.specs.Io.KnownBytes.{Appends, Keeps, append_known}
 use Rattle.platform.specs.declared.event.Event.{Event}
 use Rattle.platform.specs.Events.{line}
@@ -70,3 +70,12 @@ no_line_taken old new e kept = some_bytes old new (line e) (some_line e) kept
 -- a byte was not taken
 pub no_byte_taken : (old new : Option (List ℕ)) (byte : ℕ) → Keeps old new → IsCutShort old new (byte ∷ [])
 no_byte_taken old new byte kept = some_bytes old new (byte ∷ []) (omega arith) kept
+
+-- a text was put on the page
+pub put_on_page : (known : Option (List ℕ)) (page new text : List ℕ) (at : ℕ) → at ≤ length page → new ≡ page ++ text
+    → Appends (append_known known (drop at page)) (append_known known (drop at new)) text
+put_on_page None page new text at within is = tt
+put_on_page (Some xs) page new text at within is =
+    ap (λ (bytes : List ℕ). xs ++ drop at bytes) is
+    ∙ ap (λ (rest : List ℕ). xs ++ rest) (drop-append-le at page text within)
+    ∙ sym (append_assoc xs (drop at page) text)

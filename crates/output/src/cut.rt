@@ -1,12 +1,14 @@
 //! A writer or a reader that is cut after a number of bytes, for tests of what a failure leaves.
 
-ghost use Rattle.std.specs.Prelude.{◌≡◌, ◌-◌, ◌^◌, ◌<◌, length};
+ghost use Rattle.std.specs.Prelude.{◌≡◌, ◌-◌, ◌^◌, ◌<◌, false, length};
 ghost use Rattle.output.specs.Cuts.{EndsAtCut, CountsCall, cut_off, with_errors, with_misses};
 ghost use Rattle.output.specs.Input.{Received};
 ghost use Rattle.output.specs.Output.{Took};
 ghost use Rattle.output.specs.declared.cut.AtCut.TheVariants.{Fails, TakesNone};
 
-use crate::writer::{In, IoError, Out};
+use crate::writer::{In, IoError, LineRoom, Out};
+use platform::event::Event;
+use trace::line_end::FetchEnd;
 
 /// What a call does after the last byte.
 #[derive(Clone, Copy)]
@@ -90,6 +92,10 @@ impl<O: Out + Drop> Cut<O> {
 impl<O: Out + Drop> Out for Cut<O> {
     ghost writing = { λ c. with_errors c.failed (O.writing c.inner) };
 
+    ghost gathers = { false };
+
+    ghost room = { λ _. 0 };
+
     fn put(&mut self, bytes: &[u8]) -> Result<usize, IoError>
         ensures took { Took (with_errors self.old.failed (O.writing self.old.inner))
             (with_errors self.new.failed (O.writing self.new.inner)) bytes.now result }
@@ -113,6 +119,18 @@ impl<O: Out + Drop> Out for Cut<O> {
             AtCut::TakesNone => Ok(0),
         }
     }
+
+    fn put_fetch(
+        &mut self,
+        _line_room: &mut LineRoom,
+        _tick: u64,
+        _address: &[u8; 8],
+        _end: &FetchEnd,
+    ) {}
+
+    fn put_byte_within(&mut self, _byte: u8) {}
+
+    fn put_within(&mut self, _line_room: &mut LineRoom, _event: &Event) {}
 
     fn flush_all(&mut self) -> Result<(), IoError> {
         self.inner.flush_all()

@@ -8,6 +8,7 @@ mod cut;
 mod event_lines;
 mod history;
 mod paged;
+mod quiet_lines;
 mod view;
 mod writer;
 
@@ -16,7 +17,8 @@ pub use cut::Cut;
 pub use event_lines::{EventLines, put_step};
 pub use history::History;
 pub use paged::Paged;
+pub use quiet_lines::QuietLines;
 pub use view::{
     AllEvents, ConsoleBytes, ExceptionEvents, FaultySteps, NoEvents, RefusedEvents, View,
 };
-pub use writer::{In, IoError, LineRoom, Out, Over};
+pub use writer::{In, IoError, LineRoom, Out, Over, STEP_ROOM};

@@ -1,19 +1,21 @@
 //! A writer that gathers the lines of many steps, so that the writer below is called seldom.
 
-ghost use Rattle.std.specs.Prelude.{◌≡◌, ◌+◌, ◌≤◌, [], length, drop, OnOk, OnErr};
+ghost use Rattle.std.specs.Prelude.{◌≡◌, ◌+◌, ◌-◌, ◌≤◌, true, [], length, drop, OnOk, OnErr};
 ghost use Rattle.output.specs.Output.{with_page};
 ghost use Rattle.platform.specs.Events.{line};
 ghost use Rattle.std.specs.Io.KnownBytes.{append_known, Keeps};
 
-use crate::writer::{IoError, LineRoom, Out};
+use crate::writer::{IoError, LineRoom, Out, STEP_ROOM};
 use platform::event::Event;
+use trace::line_end::FetchEnd;
 use trace::page::Page;
 
 /// How many bytes are gathered at most.
 const ROOM: usize = 0x4000;
 
-/// The most bytes on a page that leave room for a line.
-const FULL: usize = ROOM - 64;
+/// The most bytes on a page that leave room for the lines of a step. A page with more is sent before the next line, so
+/// that steps can be made again whose lines need no call of the writer below.
+const FULL: usize = ROOM - STEP_ROOM;
 
 /// A writer that gathers lines on a page. Bytes on the page count as taken: `flush` sends them at
 /// the end, and `flush_all` wherever a caller wants it. Where the writer below fails, the line being put
@@ -52,8 +54,8 @@ impl<O: Out + Drop> Paged<O> {
         inner
     }
 
-    /// Sends the page to the writer below unless it has room for a line. On an error a prefix of the page was
-    /// sent, and the page still has the rest.
+    /// Sends the page to the writer below unless it has room for the lines of a step. On an error a prefix of the page
+    /// was sent, and the page still has the rest.
     #[inline(always)]
     fn make_room(&mut self) -> Result<(), IoError>
         ensures known { Keeps (append_known (O.writing self.old.inner).written (drop self.old.at self.old.page))
@@ -97,6 +99,10 @@ impl<O: Out + Drop> Paged<O> {
 impl<O: Out + Drop> Out for Paged<O> {
     ghost writing = { λ p. with_page (drop p.at p.page) (O.writing p.inner) };
 
+    ghost gathers = { true };
+
+    ghost room = { λ p. 0x4000 - length p.page };
+
     fn put(&mut self, bytes: &[u8]) -> Result<usize, IoError> {
         if bytes.len() <= ROOM - self.page.len() {
             self.page.put_slice(bytes);
@@ -120,14 +126,41 @@ impl<O: Out + Drop> Out for Paged<O> {
     }
 
     #[inline(always)]
-    fn put_line(&mut self, room: &mut LineRoom, event: &Event) -> Result<(), IoError> {
+    fn put_line(&mut self, line_room: &mut LineRoom, event: &Event) -> Result<(), IoError> {
         match self.make_room() {
             Ok(()) => {
-                self.page.put_event(&mut room.digits, event);
+                self.page.put_event(&mut line_room.digits, event);
                 Ok(())
             }
             Err(error) => Err(error),
         }
+    }
+
+    #[inline(always)]
+    fn has_room(&self) -> bool {
+        self.page.len() <= FULL
+    }
+
+    #[inline(always)]
+    fn put_fetch(
+        &mut self,
+        line_room: &mut LineRoom,
+        tick: u64,
+        address: &[u8; 8],
+        end: &FetchEnd,
+    ) {
+        self.page
+            .put_fetch(&mut line_room.digits, tick, address, end);
+    }
+
+    #[inline(always)]
+    fn put_byte_within(&mut self, byte: u8) {
+        self.page.put(&[byte]);
+    }
+
+    #[inline(always)]
+    fn put_within(&mut self, line_room: &mut LineRoom, event: &Event) {
+        self.page.put_event(&mut line_room.digits, event);
     }
 
     fn flush_all(&mut self) -> Result<(), IoError> {

@@ -1,9 +1,12 @@
 //! Writers that report what they took, and readers that report what they returned.
 
-ghost use Rattle.std.specs.Prelude.{◌≡◌, ◌<◌, true, [], ◌∷◌, OnErr};
+ghost use Rattle.std.specs.Prelude.{◌≡◌, ℕ, ◌+◌, ◌<◌, ◌≤◌, Bool, true, false, [], ◌∷◌, None, OnErr};
 ghost use Rattle.output.specs.Input.{Reading, Received};
-ghost use Rattle.output.specs.Output.{HandsOn, Put, Took, Writing};
+ghost use Rattle.output.specs.Output.{HandsOn, Put, Took, WritesAll, Writing};
 ghost use Rattle.platform.specs.Events.{line};
+ghost use Rattle.platform.specs.Text.{hex_word};
+ghost use Rattle.reference.specs.Accesses.{accessed};
+ghost use Rattle.reference.specs.LoadStore.{fetch_at};
 
 use platform::event::Event;
 use std::io::{Read, Write};
@@ -11,6 +14,7 @@ use std::marker::Model;
 use std::sync::ledger::{Blank, Book, Ledger, Share};
 use thiserror::Error;
 use trace::digits::LineDigits;
+use trace::line_end::FetchEnd;
 use trace::lines::LinePage;
 
 /// Room for the text of one line, and its digits, which are kept for later ones.
@@ -35,11 +39,21 @@ impl LineRoom {
 #[error("the writer or the reader failed")]
 pub struct IoError;
 
+/// Room for 20 lines of at most 64 bytes. A step of an instruction whose accesses are done has at most 18 lines: two of
+/// fetches, and 16 of other accesses.
+pub const STEP_ROOM: usize = 0xB00;
+
 /// A writer that reports how many of the bytes it took. A contract sees the bytes that it has
 /// taken, where they are known, how many calls failed or took 0 bytes of a nonempty piece, and
-/// which of the bytes wait to be sent.
+/// which of the bytes wait to be sent; and, of a writer that gathers lines, for how many bytes it has room.
 pub trait Out {
     ghost writing: { Self → Writing };
+
+    /// Whether it gathers lines, so that some can be put with no call of a writer below.
+    ghost gathers: { Bool };
+
+    /// How many bytes there is room for, whatever becomes of the writer below.
+    ghost room: { Self → ℕ };
 
     /// Takes a prefix of the bytes, and returns its length.
     fn put(&mut self, bytes: &[u8]) -> Result<usize, IoError>
@@ -70,15 +84,47 @@ pub trait Out {
         self.put_all(&[byte])
     }
 
-    /// Puts the line of an event. `room` is room for its text.
-    fn put_line(&mut self, room: &mut LineRoom, event: &Event) -> Result<(), IoError>
+    /// Puts the line of an event. `line_room` is room for its text.
+    fn put_line(&mut self, line_room: &mut LineRoom, event: &Event) -> Result<(), IoError>
         ensures { Put (writing self.old) (writing self.new) (line event.now) result }
     {
-        room.page.clear();
-        room.page.put_event(&mut room.digits, event);
-        let text = room.page.as_slice();
+        line_room.page.clear();
+        line_room.page.put_event(&mut line_room.digits, event);
+        let text = line_room.page.as_slice();
         self.put_all(text)
     }
+
+    /// Returns whether there is room for the lines of any step.
+    #[inline(always)]
+    fn has_room(&self) -> bool
+        ensures { result ≡ true → (gathers ≡ true) × (0xB00 ≤ room self.now) }
+    {
+        false
+    }
+
+    /// Puts the line of a fetch that was done, for which there is room. `line_room` has the digits that are kept. Does
+    /// nothing where no lines are gathered.
+    fn put_fetch(&mut self, line_room: &mut LineRoom, tick: u64, address: &[u8; 8], end: &FetchEnd)
+        requires { gathers ≡ true → 64 ≤ room self.old }
+        ensures put { gathers ≡ true → (at : ℕ) → address.now ≡ hex_word at
+            → WritesAll (writing self.old) (writing self.new)
+            (line (accessed tick (fetch_at at end.now.privileged) end.now.rule None)) }
+        ensures room { room self.old ≤ room self.new + 64 }
+        ensures none { gathers ≡ false → writing self.new ≡ writing self.old };
+
+    /// Puts the line of an event, for which there is room. Does nothing where no lines are gathered.
+    fn put_within(&mut self, line_room: &mut LineRoom, event: &Event)
+        requires { gathers ≡ true → 64 ≤ room self.old }
+        ensures put { gathers ≡ true → WritesAll (writing self.old) (writing self.new) (line event.now) }
+        ensures room { room self.old ≤ room self.new + 64 }
+        ensures none { gathers ≡ false → writing self.new ≡ writing self.old };
+
+    /// Puts a byte, for which there is room. Does nothing where no lines are gathered.
+    fn put_byte_within(&mut self, byte: u8)
+        requires { gathers ≡ true → 64 ≤ room self.old }
+        ensures put { gathers ≡ true → WritesAll (writing self.old) (writing self.new) (byte ∷ []) }
+        ensures room { room self.old ≤ room self.new + 64 }
+        ensures none { gathers ≡ false → writing self.new ≡ writing self.old };
 
     /// Sends the bytes that wait. On an error some of them may still wait.
     fn flush_all(&mut self) -> Result<(), IoError>
@@ -142,6 +188,10 @@ impl<T: Drop, K: Ledger> Over<T, K> {
 impl<W: Write + Drop, K: Ledger> Out for Over<W, K> {
     ghost writing = { λ o. record { written = W.contents o.inner; errors = o.book.total; waits = [] } };
 
+    ghost gathers = { false };
+
+    ghost room = { λ _. 0 };
+
     fn put(&mut self, bytes: &[u8]) -> Result<usize, IoError> {
         match self.inner.write(bytes) {
             Ok(0) if !bytes.is_empty() => {
@@ -155,6 +205,18 @@ impl<W: Write + Drop, K: Ledger> Out for Over<W, K> {
             }
         }
     }
+
+    fn put_fetch(
+        &mut self,
+        _line_room: &mut LineRoom,
+        _tick: u64,
+        _address: &[u8; 8],
+        _end: &FetchEnd,
+    ) {}
+
+    fn put_byte_within(&mut self, _byte: u8) {}
+
+    fn put_within(&mut self, _line_room: &mut LineRoom, _event: &Event) {}
 
     fn flush_all(&mut self) -> Result<(), IoError> {
         Ok(())

@@ -1,8 +1,8 @@
 //! Where the steps went: the instructions that were carried out for each symbol of the image.
 
-use crate::escape::Escaped;
-use crate::numbers::{ByteCount, Thousands};
 use crate::page::{Part, Report, write_part};
+use page_text::escape::Escaped;
+use page_text::numbers::{ByteCount, Thousands};
 use std::io;
 use std::io::Write;
 use symbol_steps::{Ranking, Share, SymbolSteps, Totals};

@@ -1,8 +1,8 @@
 //! The console: the bytes that went out.
 
-use crate::escape::ConsoleText;
-use crate::numbers::Thousands;
 use crate::page::{Part, Report, write_part};
+use page_text::escape::ConsoleText;
+use page_text::numbers::Thousands;
 use std::io;
 use std::io::Write;
 

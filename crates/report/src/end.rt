@@ -1,18 +1,19 @@
 //! At the end: the registers, the regions, the fault status, and the exceptions of the machine.
 
-use crate::fault_bits::{CFSR_BITS, FaultBit, HFSR_BITS};
-use crate::names::Place;
-use crate::numbers::Thousands;
 use crate::page::{Part, Report, write_part};
 use crate::regions::write_words;
-use crate::settings::RegionWords;
-use crate::words::{ExceptionName, RuleWord};
 use machine::{Fast, Kind, RegValues, Rule, StatusRegister};
+use page_text::fault_bits::{CFSR_BITS, FaultBit, HFSR_BITS};
+use page_text::lists::Names;
+use page_text::names::Place;
+use page_text::numbers::Thousands;
+use page_text::settings::RegionWords;
+use page_text::words::{ExceptionName, RuleWord};
 use platform::exception::EXCEPTIONS;
 use platform::fault_status::{BFARVALID, MMARVALID};
 use platform::mpu::MAX_REGIONS;
+use std::io;
 use std::io::Write;
-use std::{fmt, io};
 use symbols::Symbols;
 
 const CAPTION: &str =
@@ -308,41 +309,4 @@ fn write_active<W: Write>(out: &mut W, machine: &Fast) -> io::Result<()> {
         names.write_if(out, machine.is_active(number), ExceptionName(number))?;
     }
     names.end(out)
-}
-
-/// A list of names with commas between them, `none` where it is empty.
-#[derive(Clone, Copy)]
-struct Names {
-    is_empty: bool,
-}
-
-impl Names {
-    /// Returns an empty list.
-    fn new() -> Self {
-        Names { is_empty: true }
-    }
-
-    /// Writes a name of the list, if it is in it.
-    fn write_if<W: Write, N: fmt::Display + Copy>(
-        &mut self,
-        out: &mut W,
-        is_in: bool,
-        name: N,
-    ) -> io::Result<()> {
-        if !is_in {
-            return Ok(());
-        }
-        let separator = if self.is_empty { "" } else { ", " };
-        self.is_empty = false;
-        write!(out, "{separator}{name}")
-    }
-
-    /// Ends the list.
-    fn end<W: Write>(&self, out: &mut W) -> io::Result<()> {
-        if self.is_empty {
-            write!(out, "none")
-        } else {
-            Ok(())
-        }
-    }
 }

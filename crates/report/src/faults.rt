@@ -1,11 +1,11 @@
 //! Faults: the instruction that faulted, what was refused and by which rule, and what was recorded.
 
-use crate::fault_bits::FaultNames;
-use crate::names::Place;
-use crate::numbers::Thousands;
 use crate::page::{Part, Report, write_part};
-use crate::rules::{outcome_sign, refused};
-use crate::words::{AccessWords, ExceptionName, RefusedBy, RuleWord};
+use page_text::fault_bits::FaultNames;
+use page_text::names::Place;
+use page_text::numbers::Thousands;
+use page_text::sums::refused;
+use page_text::words::{AccessWords, ExceptionName, RefusedBy, RuleWord, outcome_sign};
 use platform::access::{Cause, DecidedAccess};
 use platform::event::RecordedFault;
 use std::io;

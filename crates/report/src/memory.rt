@@ -1,11 +1,11 @@
 //! Memory: which parts of flash and RAM were touched, by whom and how, and what the regions grant at the end.
 
-use crate::cells::{CELLS_OF_ROW, CellState, CellWords, Strip, cells_in, is_refused, state_of};
-use crate::grid::{Area, write_area};
-use crate::numbers::ByteCount;
 use crate::page::{Part, Report, write_part};
-use crate::rows::Rows;
 use machine::Fast;
+use page_text::cells::{CELLS_OF_ROW, CellState, CellWords, Strip, cells_in, is_refused, state_of};
+use page_text::grid::{Area, write_area};
+use page_text::numbers::ByteCount;
+use page_text::rows::Rows;
 use std::io;
 use std::io::Write;
 use survey::Cells;

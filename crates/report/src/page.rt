@@ -1,20 +1,21 @@
 //! The page: its head, its figures, and its parts one after another.
 
-use crate::access_table::AccessTable;
 use crate::code::write_code;
 use crate::console::write_console;
 use crate::end::write_end;
-use crate::escape::Escaped;
 use crate::faults::write_faults;
 use crate::memory::write_memory;
-use crate::numbers::Thousands;
 use crate::regions::write_regions;
-use crate::rules::{accesses, handlers, refused, write_rules};
+use crate::rules::write_rules;
 use crate::style::STYLE;
 use crate::timeline::write_timeline;
 use crate::worlds::write_worlds;
 use access_map::Worlds;
 use machine::{Fast, Stop, stop_line};
+use page_text::access_table::AccessTable;
+use page_text::escape::Escaped;
+use page_text::numbers::Thousands;
+use page_text::sums::{accesses, handlers, refused};
 use platform::access::Cause;
 use std::io::Write;
 use std::{io, str};

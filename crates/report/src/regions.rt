@@ -1,12 +1,12 @@
 //! The settings of regions: what each says, and what it decided.
 
-use crate::names::Place;
-use crate::numbers::{ByteCount, Thousands};
 use crate::page::{Part, Report, write_part};
-use crate::rules::{OUTCOMES, write_outcome};
-use crate::settings::{RegionWords, SubregionsOff};
-use crate::words::{KINDS, kind_word, privilege_letter};
+use crate::rules::write_outcome;
 use machine::Kind;
+use page_text::names::Place;
+use page_text::numbers::{ByteCount, Thousands};
+use page_text::settings::{RegionWords, SubregionsOff};
+use page_text::words::{KINDS, OUTCOMES, kind_word, privilege_letter};
 use platform::mpu::MAX_REGIONS;
 use std::io;
 use std::io::Write;

@@ -1,19 +1,18 @@
 //! Who touched what: a row for each rule, a column for each privilege and kind of access.
 
-use crate::numbers::Thousands;
 use crate::page::{Part, Report, write_part};
-use crate::words::{
-    KINDS, RULE_ROWS, RuleMeaning, RuleWord, cause_word, kind_word, privilege_letter,
-    privilege_word, rule_of_row,
+use machine::Rule;
+use page_text::numbers::Thousands;
+use page_text::sums;
+use page_text::sums::Column;
+use page_text::words::{
+    KINDS, OUTCOMES, RULE_ROWS, RuleMeaning, RuleWord, cause_word, kind_word, outcome_sign,
+    privilege_letter, privilege_word, rule_of_row,
 };
-use machine::{Kind, Rule};
 use platform::access::Cause;
 use std::io;
 use std::io::Write;
 use survey::Counts;
-
-/// What becomes of an access.
-pub const OUTCOMES: [Option<Cause>; 3] = [None, Some(Cause::Mpu), Some(Cause::Bus)];
 
 const CAPTION: &str =
     "Each row is a rule that decided accesses, under its word in the trace; each number \
@@ -21,82 +20,6 @@ counts accesses of one privilege and kind. A fetch is of one halfword, so a 32-b
 <span class='refused'>✕ refused by the MPU</span> and \
 <span class='bus'>⊘ refused by the bus</span> stand below those that were granted. Columns in which nothing \
 was counted are left out.";
-
-/// A column of the table.
-#[derive(Clone, Copy)]
-struct Column {
-    privileged: bool,
-    kind: Kind,
-}
-
-/// Returns how many accesses there were.
-pub fn accesses(counts: &Counts) -> u64 {
-    let mut sum = 0u64;
-    'rows: for row in 0..RULE_ROWS {
-        sum = sum.saturating_add(of_rule(counts, rule_of_row(row)));
-    }
-    sum
-}
-
-/// Returns how many accesses the MPU or the bus refused.
-pub fn refused(counts: &Counts, cause: Cause) -> u64 {
-    let mut sum = 0u64;
-    'rows: for row in 0..RULE_ROWS {
-        let rule = rule_of_row(row);
-        let unprivileged = refused_by(counts, rule, false, cause);
-        let privileged = refused_by(counts, rule, true, cause);
-        sum = sum.saturating_add(unprivileged).saturating_add(privileged);
-    }
-    sum
-}
-
-/// Returns how many accesses of code of a privilege the MPU or the bus refused under a rule.
-fn refused_by(counts: &Counts, rule: Rule, privileged: bool, cause: Cause) -> u64 {
-    let mut sum = 0u64;
-    'kinds: for kind in KINDS {
-        sum = sum.saturating_add(counts.number(rule, privileged, kind, Some(cause)));
-    }
-    sum
-}
-
-/// Returns how many handlers were entered: each has its vector read just before.
-pub fn handlers(counts: &Counts) -> u64 {
-    counts.number(Rule::VectorRead, true, Kind::Vector, None)
-}
-
-/// Returns how many accesses there were of a privilege and kind.
-fn of_column(counts: &Counts, column: Column) -> u64 {
-    let mut sum = 0u64;
-    'rows: for row in 0..RULE_ROWS {
-        sum = sum.saturating_add(of_cell(counts, rule_of_row(row), column));
-    }
-    sum
-}
-
-/// Returns how many accesses of a privilege and kind a rule decided.
-fn of_cell(counts: &Counts, rule: Rule, column: Column) -> u64 {
-    let mut sum = 0u64;
-    'outcomes: for refused in OUTCOMES {
-        let number = counts.number(rule, column.privileged, column.kind, refused);
-        sum = sum.saturating_add(number);
-    }
-    sum
-}
-
-/// Returns how many accesses a rule decided.
-fn of_rule(counts: &Counts, rule: Rule) -> u64 {
-    let unprivileged = of_rule_for(counts, rule, false);
-    unprivileged.saturating_add(of_rule_for(counts, rule, true))
-}
-
-/// Returns how many accesses of code of a privilege a rule decided.
-fn of_rule_for(counts: &Counts, rule: Rule, privileged: bool) -> u64 {
-    let mut sum = 0u64;
-    'kinds: for kind in KINDS {
-        sum = sum.saturating_add(of_cell(counts, rule, Column { privileged, kind }));
-    }
-    sum
-}
 
 /// Writes the part.
 pub fn write_rules<W: Write>(out: &mut W, report: &Report<'_>) -> io::Result<()> {
@@ -135,7 +58,7 @@ fn write_heading<W: Write>(out: &mut W, counts: &Counts) -> io::Result<()> {
 fn columns_used(counts: &Counts, privileged: bool) -> u8 {
     let mut used = 0u8;
     'kinds: for kind in KINDS {
-        if of_column(counts, Column { privileged, kind }) > 0 {
+        if sums::of_column(counts, Column { privileged, kind }) > 0 {
             used = used.saturating_add(1);
         }
     }
@@ -146,7 +69,7 @@ fn columns_used(counts: &Counts, privileged: bool) -> u8 {
 fn write_kinds<W: Write>(out: &mut W, counts: &Counts, privileged: bool) -> io::Result<()> {
     let letter = privilege_letter(privileged);
     'kinds: for kind in KINDS {
-        if of_column(counts, Column { privileged, kind }) > 0 {
+        if sums::of_column(counts, Column { privileged, kind }) > 0 {
             let word = kind_word(kind);
             write!(out, "<th class='{letter}' scope='col'>{word}</th>")?;
         }
@@ -156,7 +79,7 @@ fn write_kinds<W: Write>(out: &mut W, counts: &Counts, privileged: bool) -> io::
 
 /// Writes the row of a rule, if it decided an access.
 fn write_row<W: Write>(out: &mut W, counts: &Counts, rule: Rule) -> io::Result<()> {
-    let all = of_rule(counts, rule);
+    let all = sums::of_rule(counts, rule);
     if all == 0 {
         return Ok(());
     }
@@ -195,11 +118,11 @@ fn write_cell<W: Write>(
     rule: Rule,
     column: Column,
 ) -> io::Result<()> {
-    if of_column(counts, column) == 0 {
+    if sums::of_column(counts, column) == 0 {
         return Ok(());
     }
     let letter = privilege_letter(column.privileged);
-    if of_cell(counts, rule, column) == 0 {
+    if sums::of_cell(counts, rule, column) == 0 {
         return write!(out, "<td class='{letter} zero'>·</td>");
     }
     let privilege = privilege_word(column.privileged);
@@ -243,13 +166,5 @@ pub fn write_outcome<W: Write>(out: &mut W, refused: Option<Cause>, number: u64)
                 "{word}' class='{class}' data-number='{number}'>{sign} {shown} {word}</span>"
             )
         }
-    }
-}
-
-/// Returns the class and the sign of an access that was refused.
-pub fn outcome_sign(cause: Cause) -> (&'static str, &'static str) {
-    match cause {
-        Cause::Mpu => ("refused", "✕"),
-        Cause::Bus => ("bus", "⊘"),
     }
 }

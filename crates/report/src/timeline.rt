@@ -1,11 +1,11 @@
 //! Time: what ran when, a lane for each thing that ran.
 
-use crate::grid::{Area, write_area};
-use crate::numbers::Thousands;
 use crate::page::{Part, Report, write_part};
-use crate::words::ExceptionName;
+use page_text::grid::{Area, write_area};
+use page_text::lanes::{Lane, LaneId};
+use page_text::numbers::Thousands;
+use std::io;
 use std::io::Write;
-use std::{fmt, io};
 use survey::{Mark, Timeline};
 
 const CAPTION: &str =
@@ -16,69 +16,6 @@ lanes, and <span class='mpu'>▲ writes to the MPU</span> have a lane.";
 
 /// How high a lane is, in units of its drawing.
 const LANE_HEIGHT: usize = 10;
-
-/// A lane of the drawing.
-#[derive(Clone, Copy)]
-enum Lane {
-    Unprivileged,
-    Privileged,
-    Handler(u16),
-    OtherHandlers,
-    Sleep,
-    Refused,
-    MpuWritten,
-}
-
-impl Lane {
-    /// Returns the class of the lane: its colour.
-    fn class(self) -> &'static str {
-        match self {
-            Lane::Unprivileged => "u",
-            Lane::Privileged => "p",
-            Lane::Handler(_) => "p",
-            Lane::OtherHandlers => "p",
-            Lane::Sleep => "sleep",
-            Lane::Refused => "refused",
-            Lane::MpuWritten => "mpu",
-        }
-    }
-}
-
-impl fmt::Display for Lane {
-    /// Writes what the lane is called.
-    fn fmt<W: fmt::Write>(&self, f: &mut fmt::Formatter<W>) -> fmt::Result {
-        match *self {
-            Lane::Unprivileged => write!(f, "Thread, unprivileged"),
-            Lane::Privileged => write!(f, "Thread, privileged"),
-            Lane::Handler(exception) => {
-                let name = ExceptionName(exception);
-                write!(f, "{name}")
-            }
-            Lane::OtherHandlers => write!(f, "other handlers"),
-            Lane::Sleep => write!(f, "asleep"),
-            Lane::Refused => write!(f, "✕ access refused"),
-            Lane::MpuWritten => write!(f, "▲ MPU written"),
-        }
-    }
-}
-
-/// The id of a lane.
-#[derive(Clone, Copy)]
-struct LaneId(Lane);
-
-impl fmt::Display for LaneId {
-    fn fmt<W: fmt::Write>(&self, f: &mut fmt::Formatter<W>) -> fmt::Result {
-        match self.0 {
-            Lane::Unprivileged => write!(f, "lane-unprivileged"),
-            Lane::Privileged => write!(f, "lane-privileged"),
-            Lane::Handler(exception) => write!(f, "lane-exception-{exception}"),
-            Lane::OtherHandlers => write!(f, "lane-other-handlers"),
-            Lane::Sleep => write!(f, "lane-sleep"),
-            Lane::Refused => write!(f, "lane-refused"),
-            Lane::MpuWritten => write!(f, "lane-mpu"),
-        }
-    }
-}
 
 /// Writes the part.
 pub fn write_timeline<W: Write>(out: &mut W, report: &Report<'_>) -> io::Result<()> {

@@ -2,13 +2,14 @@
 
 ghost use Rattle.std.specs.Prelude.{◌≤◌, ◌<◌};
 
-use crate::access_table::{AccessRow, AccessTable, MAX_COLUMNS, Share, columns_of};
-use crate::names;
-use crate::numbers::{ByteCount, Thousands};
 use crate::page::{Part, write_part};
-use access_map::{Place, Rights, WorldSteps, Worlds};
+use access_map::{WorldSteps, Worlds};
+use page_text::access_table::{AccessRow, AccessTable, MAX_COLUMNS, Share, columns_of};
+use page_text::names::Place;
+use page_text::numbers::{ByteCount, Thousands};
+use page_text::words::{RightsLetters, place_word, rights_class};
+use std::io;
 use std::io::Write;
-use std::{fmt, io};
 use symbols::Symbols;
 
 const CAPTION: &str =
@@ -16,40 +17,6 @@ const CAPTION: &str =
 Each row says what each world may do with its addresses, used or not: read (<code>r</code>), write \
 (<code>w</code>), execute (<code>x</code>). <b>→ 2</b> is where the world may write what world 2 may read, and \
 <b>← 1</b> where it may read what world 1 may write; all of these are below the table.";
-
-/// The letters of rights, and `-` for each that isn't granted.
-#[derive(Clone, Copy)]
-struct RightsLetters(Rights);
-
-impl fmt::Display for RightsLetters {
-    fn fmt<W: fmt::Write>(&self, f: &mut fmt::Formatter<W>) -> fmt::Result {
-        let read = if self.0.read { "r" } else { "-" };
-        let write = if self.0.write { "w" } else { "-" };
-        let execute = if self.0.execute { "x" } else { "-" };
-        write!(f, "{read}{write}{execute}")
-    }
-}
-
-/// Returns the class of rights: their colour.
-fn rights_class(rights: Rights) -> &'static str {
-    if rights.write {
-        "changes"
-    } else if rights.read || rights.execute {
-        "sees"
-    } else {
-        "zero"
-    }
-}
-
-/// Returns the word for a place.
-fn place_word(place: Place) -> &'static str {
-    match place {
-        Place::Flash => "flash",
-        Place::Ram => "RAM",
-        Place::SecondRam => "second RAM",
-        Place::Window => "window",
-    }
-}
 
 /// Returns the number of the world of a place among the rows: the first is 1.
 fn number_of(place: usize) -> usize {
@@ -104,7 +71,7 @@ fn write_world<W: Write>(
     let pc = world.pc;
     let lowest = world.lowest;
     let highest = world.highest;
-    let begins = names::Place {
+    let begins = Place {
         address: pc,
         symbols,
     };

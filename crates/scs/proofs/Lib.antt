@@ -1,4 +1,5 @@
 pub mod Devices
+pub mod Passing
 mod Places
 mod Refused
 pub mod Refusals

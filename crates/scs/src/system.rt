@@ -20,6 +20,7 @@ ghost use Rattle.platform.specs.Rules.{decision_of, is_off_below_zero};
 ghost use Rattle.platform.specs.SpecialRegisters.{with_special, with_mask};
 ghost use Rattle.platform.specs.SpecialRegisters as special;
 ghost use Rattle.platform.specs.Status.{with_fault_bits, with_mmfar, with_bfar};
+ghost use Rattle.platform.specs.Time.{due_of, passed};
 ghost use Rattle.scs.specs.Writes.{after_write, answered};
 
 use crate::addresses::{first_byte, has_width, in_place, part_of, register_at};
@@ -166,6 +167,25 @@ impl<D: Decider, L: Exceptions, U: SysTickState> System<D, L, U> {
         ensures same { result ≡ false → self.new ≡ self.old }
     {
         self.clock.tick_quietly()
+    }
+
+    /// Returns for how many ticks from now on nothing is due; 0 if that isn't known.
+    #[inline]
+    pub fn quiet_ticks(&self) -> u64
+        ensures { 0 < result → self.now.time.ticks + result < due_of self.now.time }
+    {
+        self.clock.quiet_ticks()
+    }
+
+    /// Makes the next tick, at which nothing is due.
+    #[inline(always)]
+    #[tactic(auto, using(crate::proofs::Passing::only_time_passes))]
+    pub fn pass(&mut self)
+        requires { self.old.time.ticks + 1 < due_of self.old.time }
+        ensures tick { self.new ≡ after_tick self.old }
+        ensures time { self.new ≡ record self.old { time = passed self.old.time } }
+    {
+        self.clock.pass();
     }
 
     /// Makes the next tick, makes pending what is due at it, and then pokes words of devices, after which their lines

@@ -7,6 +7,3 @@ mod totals;
 
 pub use ranking::{MAX_ROWS, Ranking, SymbolSteps};
 pub use totals::{Share, Totals};
-
-#[cfg(test)]
-mod tests;

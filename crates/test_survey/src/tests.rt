@@ -1,5 +1,8 @@
 mod consoles;
 mod counters;
+mod page_lengths;
+mod page_worlds;
+mod pages;
 mod rows;
 mod runs;
 mod timelines;

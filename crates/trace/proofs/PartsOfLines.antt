@@ -1,5 +1,7 @@
 -- The parts of a line, put together.
-use Rattle.std.proofs.Common.{◌≡◌, ℕ, ◌/◌, ◌%◌, ◌^◌, ◌<◌, List, ◌++◌, None, append_assoc, refl}
+use Rattle.std.proofs.Common.{◌≡◌, ℕ, ◌/◌, ◌%◌, ◌^◌, ◌<◌, Bool, List, ◌++◌, None, append_assoc, refl, sym, ap, ◌∙◌}
+use Rattle.std.proofs.Common.{arith}
+use Rattle.std.proofs.lemmas.Fmt.{decimal_digit}
 use Rattle.std.specs.Fmt.{decimal}
 use Rattle.std.specs.Prelude.{codes}
 use Rattle.instruction_set.specs.Sizes.{bytes_in}
@@ -9,9 +11,12 @@ use Rattle.platform.specs.declared.event.EventKind.{EventKind}
 use Rattle.platform.specs.declared.event.EventKind.TheVariants.{Accessed}
 use Rattle.platform.specs.Events.{line}
 use Rattle.platform.specs.declared.access.Rule.{Rule}
-use Rattle.platform.specs.Text.{access_text, hex_byte, kind_text, line_feed, outcome_text, privilege_text, rule_text}
+use Rattle.platform.specs.Text.{access_text, hex_byte, hex_word, kind_text, line_feed, outcome_text, privilege_text}
+use Rattle.platform.specs.Text.{rule_text}
 use Rattle.trace.proofs.Pairs.{upper_half}
-use Rattle.trace.specs.Ends.{end_text}
+use Rattle.reference.specs.Accesses.{accessed}
+use Rattle.reference.specs.LoadStore.{fetch_at}
+use Rattle.trace.specs.Ends.{end_text, fetch_end}
 use Rattle.trace.specs.Tails.{access_head, tail}
 
 -- a line is its tick and its tail
@@ -54,3 +59,26 @@ pub done_line : (page head end : List ℕ) (tick : ℕ) (d : DecidedAccess) (rul
     ((page ++ decimal tick) ++ head) ++ end ≡ page ++ line (record { tick = tick; what = Accessed d })
 unfolding line
 done_line page head end tick d rule done is same ends = rw (is, ends, same, done) (simp append_assoc)
+
+-- the line of a fetch that was done, with the text of its size
+abbrev with_size : (tick digits size privilege rule : List ℕ) → List ℕ
+with_size tick digits size privilege rule =
+    ((tick ++ codes " ") ++ ((((((((((codes "F" ++ codes " ") ++ digits) ++ codes " ") ++ size) ++ codes " ")
+    ++ privilege) ++ codes " ") ++ codes "ok") ++ codes " ") ++ rule)) ++ line_feed
+
+fetch_joined : (page tick digits privilege rule : List ℕ) →
+    (page ++ tick)
+    ++ ((codes " F " ++ digits) ++ (codes " 2 " ++ (privilege ++ (codes " ok " ++ (rule ++ line_feed)))))
+    ≡ page ++ with_size tick digits (codes "2") privilege rule
+fetch_joined page tick digits privilege rule = simp append_assoc refl
+
+-- the line of a fetch that was done: its tick, the digits of its address and its end
+pub fetch_line : (page digits : List ℕ) (tick at : ℕ) (privileged : Bool) (rule : Rule) → digits ≡ hex_word at →
+    (page ++ decimal tick) ++ ((codes " F " ++ digits) ++ fetch_end privileged rule)
+    ≡ page ++ line (accessed tick (fetch_at at privileged) rule None)
+unfolding line
+fetch_line page digits tick at privileged rule spelled =
+    rw spelled
+    (fetch_joined page (decimal tick) (hex_word at) (privilege_text privileged) (rule_text rule)
+    ∙ ap (λ size. page ++ with_size (decimal tick) (hex_word at) size (privilege_text privileged) (rule_text rule))
+    (sym (decimal_digit 2 (omega arith))))

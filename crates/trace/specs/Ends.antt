@@ -1,13 +1,17 @@
--- The end of the line of an access that was done, as it is kept for later lines.
+-- The ends of the lines of accesses that were done, as they are kept for later lines.
 use Rattle.std.specs.Prelude.{ℕ, zero, suc, ◌==◌, Bool, true, List, ◌++◌, codes}
 use Rattle.platform.specs.declared.access.Rule.{Rule}
 use Rattle.platform.specs.declared.access.Rule.TheVariants.{NeverExecute, VectorRead, PrivatePeripheralBus, MpuOff}
 use Rattle.platform.specs.declared.access.Rule.TheVariants.{NegativePriority, Region, Background, NoRegion}
-use Rattle.platform.specs.Text.{line_feed, rule_text}
+use Rattle.platform.specs.Text.{line_feed, privilege_text, rule_text}
 
 -- from the space before the outcome on
 abbrev pub end_text : Rule → List ℕ
 end_text rule = codes " ok " ++ (rule_text rule ++ line_feed)
+
+-- of a fetch by code of one privilege: all of the line after the address. A fetch is of a halfword, 2 bytes
+abbrev pub fetch_end : Bool → Rule → List ℕ
+fetch_end privileged rule = codes " 2 " ++ (privilege_text privileged ++ end_text rule)
 
 -- the rule of a rank; that of a region has the number
 abbrev pub rule_of : ℕ → ℕ → Rule

@@ -1,6 +1,6 @@
 -- Which events of a run are written, and the text of those (profile).
-use Rattle.std.specs.Prelude.{ℕ, zero, suc, Bool, true, false, ◌||◌, ◌&&◌, if◌then◌else◌, ◌==◌, List, [], ◌++◌, Option}
-use Rattle.std.specs.Prelude.{Some, None, is_some}
+use Rattle.std.specs.Prelude.{ℕ, zero, suc, Bool, true, false, not, ◌||◌, ◌&&◌, if◌then◌else◌, ◌==◌, List, [], ◌++◌}
+use Rattle.std.specs.Prelude.{Option, Some, None, is_some}
 use Rattle.std.specs.List.{filter, filter_map, last_or, list_any}
 use Rattle.platform.specs.declared.event.Event.{Event}
 use Rattle.platform.specs.declared.event.EventKind.{EventKind}
@@ -8,7 +8,7 @@ use Rattle.platform.specs.declared.event.EventKind.TheVariants.{Accessed, Consol
 use Rattle.platform.specs.declared.event.EventKind.TheVariants.{FaultRecorded}
 use Rattle.platform.specs.declared.exception.TheConstants.{HARD_FAULT, MEM_MANAGE, BUS_FAULT, USAGE_FAULT}
 use Rattle.platform.specs.declared.stop.Stop.{Stop}
-use Rattle.platform.specs.Events.{byte_of, is_entry_or_return, is_refused, recorded_fault_of}
+use Rattle.platform.specs.Events.{byte_of, is_access_with, is_entry_or_return, is_refused, recorded_fault_of}
 use Rattle.reference.specs.Run.{after, ending_of, events_of}
 use Rattle.reference.specs.State.{State}
 use Rattle.reference.specs.Step.{step}
@@ -57,6 +57,10 @@ has_faulty_steps which.Nothing = false
 -- whether an access was refused or a fault was recorded
 abbrev pub has_refusal : List Event → Bool
 has_refusal events = list_any (λ e. is_refusal e.what) events
+
+-- an access that was done
+abbrev pub is_done_access : Event → Bool
+is_done_access e = is_access_with (λ d. not (is_some d.refused)) e.what
 
 -- the events of the kinds that a selection has
 abbrev pub of_kinds : TraceSelection → List Event → List Event

@@ -27,7 +27,7 @@ pub(crate) fn pair(byte: u8) -> [u8; 2]
 
 /// Returns the eight digits of a word.
 #[inline(always)]
-pub(crate) fn word(value: u32) -> [u8; 8]
+pub fn word(value: u32) -> [u8; 8]
     ensures { result ≡ hex_word value }
 {
     let a = pair((value / 0x100_0000) as u8);

@@ -3,8 +3,8 @@
 
 pub mod digits;
 mod head;
-mod hex;
-mod line_end;
+pub mod hex;
+pub mod line_end;
 pub mod lines;
 pub mod page;
 pub mod selection;

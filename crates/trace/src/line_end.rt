@@ -1,9 +1,11 @@
 //! The ends that lines have in common with earlier ones.
 
-ghost use Rattle.std.specs.Prelude.{◌≡◌, ◌≤◌, true, take, IfSome};
+ghost use Rattle.std.specs.Prelude.{◌≡◌, ◌≤◌, ◌++◌, true, codes, take, IfSome};
 ghost use Rattle.std.specs.Bool.{OnTrue};
 ghost use Rattle.platform.specs.Rules.{rank};
-ghost use Rattle.trace.specs.Ends.{end_text, fits_number, rule_of};
+ghost use Rattle.platform.specs.Text.{privilege_text};
+ghost use Rattle.platform.specs.declared.access.Rule.TheVariants.{MpuOff};
+ghost use Rattle.trace.specs.Ends.{end_text, fetch_end, fits_number, rule_of};
 
 use platform::access::Rule;
 
@@ -65,6 +67,70 @@ impl LineEnd {
         self.rank = rank_of(rule);
         self.number = number_of(rule);
         true
+    }
+}
+
+/// The end of the line of a fetch that was done, from the space after its address on. It is kept for fetches by code of
+/// one privilege that one rule grants.
+#[derive(Clone, Copy)]
+pub struct FetchEnd {
+    /// The end, in the first `count` bytes. All 16 are copied at once.
+    pub(crate) text: [u8; 16],
+    pub(crate) count: usize,
+    pub rule: Rule,
+    pub privileged: bool,
+    ghost few: { count ≤ 16 },
+    ghost right: { take count text ≡ fetch_end privileged rule },
+}
+
+impl FetchEnd {
+    /// Returns the end for privileged code while the MPU is off.
+    pub fn new() -> Self
+        ensures { (result.rule ≡ MpuOff) × (result.privileged ≡ true) }
+    {
+        FetchEnd {
+            text: *b" 2 p ok off\n    ",
+            count: 12,
+            rule: Rule::MpuOff,
+            privileged: true,
+        }
+    }
+
+    /// Returns the end for code of one privilege and one rule; None if the part of it from ` ok` on is longer than 8
+    /// bytes.
+    #[cold]
+    #[inline(never)]
+    #[tactic(auto, using(crate::proofs::Ends::after_address))]
+    pub fn of(rule: Rule, privileged: bool) -> Option<Self>
+        ensures { IfSome result (λ end. (end.rule ≡ rule) × (end.privileged ≡ privileged)) }
+    {
+        let end = end_of(rule)?;
+        Some(FetchEnd {
+            text: after_address(&end.0, privileged),
+            count: 4 + end.1,
+            rule,
+            privileged,
+        })
+    }
+}
+
+/// Returns the size of a fetch and the privilege before the end of its line, and 4 bytes that don't count.
+fn after_address(end: &[u8; 8], privileged: bool) -> [u8; 16]
+    ensures { result ≡ codes " 2 " ++ (privilege_text privileged ++ (end.now ++ codes "    ")) }
+{
+    let mut text = before_end(privileged);
+    text[4..12].copy_from_slice(end);
+    text
+}
+
+/// Returns the size of a fetch and the privilege, and 12 bytes that don't count.
+fn before_end(privileged: bool) -> [u8; 16]
+    ensures { result ≡ codes " 2 " ++ (privilege_text privileged ++ codes "            ") }
+{
+    if privileged {
+        *b" 2 p            "
+    } else {
+        *b" 2 u            "
     }
 }
 

@@ -1,16 +1,20 @@
 //! The lines of events and of stops.
 
-ghost use Rattle.std.specs.Prelude.{◌≡◌, ◌+◌, ◌≤◌, ◌++◌, length, codes, decimal};
+ghost use Rattle.std.specs.Prelude.{◌≡◌, ℕ, ◌+◌, ◌≤◌, ◌++◌, length, codes, decimal, None};
 ghost use Rattle.platform.specs.declared.event.EventKind.TheVariants.{Accessed, ConsoleByte, ReturnBegan};
 ghost use Rattle.platform.specs.declared.event.EventKind.TheVariants.{HandlerEntered, FaultRecorded};
 ghost use Rattle.platform.specs.Events.{line};
 ghost use Rattle.platform.specs.Text as spec;
-ghost use Rattle.platform.specs.Text.{stop_text, outcome_text, rule_text, line_feed};
+ghost use Rattle.platform.specs.Text.{hex_word, stop_text, outcome_text, rule_text, line_feed};
+ghost use Rattle.reference.specs.Accesses.{accessed};
+ghost use Rattle.reference.specs.LoadStore.{fetch_at};
+ghost use Rattle.trace.specs.Ends.{fetch_end};
 ghost use Rattle.trace.specs.Tails.{access_head, head_text, tail};
 
 use crate::digits::{KeptParts, LineDigits};
 use crate::head::AccessHead;
 use crate::hex;
+use crate::line_end::FetchEnd;
 use crate::page::Page;
 use crate::tick::Tick;
 use crate::words::{kind_piece, size_piece};
@@ -62,6 +66,61 @@ impl<const ROOM: usize> Page<ROOM> {
             EventKind::Accessed(access) => self.put_access(digits, event.tick, access),
             what => self.put_any(&mut digits.tick, event.tick, *what),
         }
+    }
+
+    /// Appends the line of a fetch that was done, from the digits of its address and its end. As in `put_parts`, all
+    /// loads but one come before the first `put`.
+    #[inline(always)]
+    #[tactic(auto, using(crate::proofs::PartsOfLines::fetch_line))]
+    pub fn put_fetch(
+        &mut self,
+        digits: &mut LineDigits,
+        tick: u64,
+        address: &[u8; 8],
+        end: &FetchEnd,
+    )
+        requires { length self.old + 64 ≤ ROOM }
+        ensures text { (at : ℕ) → address.now ≡ hex_word at → self.new ≡ self.old
+            ++ line (accessed tick (fetch_at at end.now.privileged) end.now.rule None) }
+        ensures longer { length self.old ≤ length self.new }
+        ensures short { length self.new ≤ length self.old + 64 }
+    {
+        if digits.tick.hold(tick) {
+            let address = *address;
+            let end = *end;
+            digits.tick.put_held(tick, self);
+            self.put_after_tick(&address, &end);
+        } else {
+            self.put_late_fetch(tick, address, end);
+        }
+    }
+
+    /// Appends the line of a fetch that was done at a tick of more than 17 digits.
+    #[cold]
+    #[inline(never)]
+    #[tactic(auto, using(crate::proofs::PartsOfLines::fetch_line))]
+    fn put_late_fetch(&mut self, tick: u64, address: &[u8; 8], end: &FetchEnd)
+        requires { length self.old + 64 ≤ ROOM }
+        ensures text { (at : ℕ) → address.now ≡ hex_word at → self.new ≡ self.old
+            ++ line (accessed tick (fetch_at at end.now.privileged) end.now.rule None) }
+        ensures longer { length self.old ≤ length self.new }
+        ensures short { length self.new ≤ length self.old + 64 }
+    {
+        self.put_decimal(tick);
+        self.put_after_tick(address, end);
+    }
+
+    /// Appends the line of a fetch that was done, but for its tick.
+    #[inline(always)]
+    fn put_after_tick(&mut self, address: &[u8; 8], end: &FetchEnd)
+        requires { length self.old + 27 ≤ ROOM }
+        ensures text { self.new ≡ self.old
+            ++ ((codes " F " ++ address.now) ++ fetch_end end.now.privileged end.now.rule) }
+        ensures short { length self.new ≤ length self.old + 27 }
+    {
+        self.put_some(b" F  ", 3);
+        self.put(address);
+        self.put_front(&end.text, end.count);
     }
 
     /// Appends the line of a stop.

@@ -1,9 +1,10 @@
 //! Which events of a run are written.
 
-ghost use Rattle.std.specs.Prelude.{◌≡◌, List, [], ◌∷◌, ◌++◌, is_some};
+ghost use Rattle.std.specs.Prelude.{◌≡◌, true, false, List, [], ◌∷◌, ◌++◌, is_some};
 ghost use Rattle.platform.specs.declared.event.Event.{Event};
 ghost use Rattle.trace.specs.Selection.{enters_fault_handler, handles_faults, has_faulty_steps};
-ghost use Rattle.trace.specs.Selection.{has_refusal, is_refusal};
+ghost use Rattle.trace.specs.Selection.{has_refusal, is_done_access, is_refusal};
+ghost use Rattle.trace.specs.declared.selection.TraceSelection.TheVariants as which;
 ghost use Rattle.trace.specs.Selection.{kinds_text, last_printed, selected_text, selects, writes_bytes};
 
 use platform::event::{Event, EventKind};
@@ -39,6 +40,22 @@ impl TraceSelection {
             TraceSelection::Exceptions => is_refusal(what) || what.is_entry_or_return(),
             TraceSelection::Console => what.byte().is_some(),
             TraceSelection::Nothing => false,
+        }
+    }
+
+    /// Returns whether the accesses that were done are written, all of them; otherwise none of them is.
+    #[inline(always)]
+    pub fn has_done_accesses(self) -> bool
+        ensures some { result ≡ true → self ≡ which.All }
+        ensures none { result ≡ false → (e : Event) → is_done_access e ≡ true → selects self e.what ≡ false }
+    {
+        match self {
+            TraceSelection::All => true,
+            TraceSelection::Refused
+            | TraceSelection::Faults
+            | TraceSelection::Exceptions
+            | TraceSelection::Console
+            | TraceSelection::Nothing => false,
         }
     }
 

@@ -139,6 +139,11 @@ fn fetches_are_kept_until_the_registers_are_written(rt: HostRuntime) {
     assert!(rt; !is_kept(&kept, 0x100), "at a priority below 0");
     let _ = kept.decide_and_keep(0x100, Kind::Fetch, true, false);
     assert!(rt; is_kept(&kept, 0x100), "where it is granted");
+    let _ = kept.decide_and_keep(0x2000_0100, Kind::Fetch, true, false);
+    assert!(rt;
+        is_kept(&kept, 0x100) && is_kept(&kept, 0x2000_0100),
+        "in flash and in RAM"
+    );
     let _ = kept.decide_and_keep(0x4000_0000, Kind::Fetch, true, false);
     assert!(rt; !is_kept(&kept, 0x4000_0000), "where it is refused");
     assert!(rt; write_pairs(&mut registers, "E000ED94:00000005").is_some());
@@ -155,6 +160,11 @@ fn rules_of_data_are_kept_until_the_registers_are_written(rt: HostRuntime) {
         "before a decision"
     );
     let _ = kept.decide_and_keep(0x2000_0000, Kind::Load, true, false);
+    let _ = kept.decide_and_keep(0, Kind::Load, true, false);
+    assert!(rt;
+        kept.kept_rule(0, Kind::Load, true).is_some(),
+        "beside one of RAM"
+    );
     assert!(rt;
         kept.kept_rule(0x2000_0000, Kind::Store, true).is_some(),
         "for each kind"
@@ -187,6 +197,7 @@ fn nothing_is_due_before_the_tick_that_is_kept(rt: HostRuntime) -> Result<(), Fa
     clock.write_csr(3);
     assert!(rt; *clock.due() == 3);
     let mut clock = clock.with_due(5);
+    assert!(rt; clock.quiet_ticks() == 4);
     for _ in 0..3 {
         if clock.now() < 3 {
             assert!(rt; clock.tick_quietly());

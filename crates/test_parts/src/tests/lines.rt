@@ -9,6 +9,8 @@ use platform::stop::{Stop, Unsupported};
 use std::test::*;
 use test_tables::{Rows, byte_at, check, halfword_at, long_at, meaning, number_at, part, word};
 use trace::digits::LineDigits;
+use trace::hex;
+use trace::line_end::FetchEnd;
 use trace::lines::{event_line, stop_line};
 use trace::page::Page;
 
@@ -138,6 +140,46 @@ fn lines_after_one_another() -> Result<(), Fail> {
         digits: LineDigits::new(),
     };
     check(LATER, &mut lines)
+}
+
+/// The lines of fetches that were done, from the digits of their addresses and their ends.
+#[derive(Drop)]
+struct FetchLines {
+    digits: LineDigits,
+}
+
+impl Rows for FetchLines {
+    fn holds(&mut self, row: &str) -> Option<bool> {
+        let tick = long_at(part(row, 1), 0)?;
+        let EventKind::Accessed(fetch) = happening(row)? else {
+            return None;
+        };
+        let address = hex::word(fetch.access.address);
+        let end = FetchEnd::of(fetch.rule, fetch.access.privileged)?;
+        let mut page = Page::<64>::new();
+        page.put_fetch(&mut self.digits, tick, &address, &end);
+        Some(is_line(page.as_slice(), part(row, 0)))
+    }
+}
+
+/// As in `EVENTS`. The last two ticks have 17 and 18 digits.
+const FETCHES: &str = "\
+1 F 00000008 2 p ok off                  | 1 access | F halfword 8 0 p | done off
+2 F 0000000A 2 u ok off                  | 2 access | F halfword A 0 u | done off
+9 F 1234ABCD 2 u ok r7                   | 9 access | F halfword 1234ABCD 0 u | done r7
+10 F 1234ABCF 2 p ok r15                 | A access | F halfword 1234ABCF 0 p | done rF
+10 F FFFFFFFE 2 p ok vec                 | A access | F halfword FFFFFFFE 0 p | done vec
+11 F 00000100 2 p ok bg                  | B access | F halfword 100 0 p | done bg
+12 F 00000200 2 p ok neg                 | C access | F halfword 200 0 p | done neg
+10000000000000000 F 00000008 2 p ok off  | 2386F26FC10000 access | F halfword 8 0 p | done off
+100000000000000000 F 00000008 2 p ok off | 16345785D8A0000 access | F halfword 8 0 p | done off";
+
+#[test]
+fn lines_of_fetches() -> Result<(), Fail> {
+    let mut lines = FetchLines {
+        digits: LineDigits::new(),
+    };
+    check(FETCHES, &mut lines)
 }
 
 /// The stops that the rows name.

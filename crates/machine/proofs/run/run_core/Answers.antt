@@ -1,7 +1,9 @@
-use Rattle.std.proofs.Common.{◌≡◌, ◌⊎◌, inl, inr, ◌∙◌, sym, refl, arith, IsSome, is_some, false}
+use Rattle.std.proofs.Common.{◌≡◌, ◌⊎◌, inl, inr, ◌∙◌, sym, ap, refl, ℕ, ◌+◌, arith, IsSome, is_some, false}
 use Rattle.std.proofs.KnownBytes.{Appends-nil}
-use Rattle.machine.proofs.Running.{none_made, after_on, made_on, not_some, all_made, ends_so}
-use Rattle.machine.proofs.Selecting.{all_shown, cut_in_end, cut_in_step, none_printed, none_shown, printed_on, shown_on}
+use Rattle.machine.proofs.ManySteps.{cut_in_last, made_both, printed_both, shown_both, state_both}
+use Rattle.machine.proofs.Running.{none_made, not_some, all_made, ends_so}
+use Rattle.machine.proofs.Selecting.{all_shown, cut_in_end, none_printed, none_shown}
+use Rattle.trace.specs.Selection.{selected_text}
 use Rattle.machine.proofs.run.run_core.Goals as goal
 use Rattle.machine.proofs.run.run_core.Goals.{else-steps-test, then-steps-test+then-has_stopped}
 
@@ -18,29 +20,33 @@ steps-init g c = record {
 
 pub steps-preserved : goal.steps-preserved
 steps-preserved g c =
-    let going : is_some c.steps.core.stop ≡ false = cc in
+    let wrote = c.in-Ok.ensures.written in
     record {
-      few = omega arith;
-      core = c.write_selected.ensures.state ∙ after_on _ _ _ c.steps.invariant.core;
-      made = made_on _ _ _ c.steps.invariant.made c.steps.invariant.core (not_some _ going);
+      few = omega (arith, wrote.few);
+      core = state_both _ _ _ _ _ c.steps.invariant.core wrote.state;
+      made = made_both _ _ _ _ c.steps.invariant.core c.steps.invariant.made wrote.made;
       shown =
-          shown_on g.V.View.SELECTION _ _ _ _ _ _ c.steps.invariant.shown c.in-Ok.ensures.put.0
+          shown_both (selected_text g.V.View.SELECTION) _ _ _ _ _ _ _ c.steps.invariant.shown wrote.text.0
           c.steps.invariant.core;
       printed =
-          printed_on g.V.View.SELECTION _ _ _ _ _ c.write_selected.ensures.last c.steps.invariant.printed
+          printed_both g.V.View.SELECTION _ _ _ _ _ _ c.in-Ok.ensures.last c.steps.invariant.printed
           c.steps.invariant.core;
-      same = c.in-Ok.ensures.put.1 ∙ c.steps.invariant.same;
-      permit = c.write_selected.ensures.permit;
+      same = wrote.text.1 ∙ c.steps.invariant.same;
+      permit = c.write_steps.ensures.permit;
     }
+
+pub write_steps-requires-clause-going : goal.write_steps-requires-clause-going
+write_steps-requires-clause-going g c = let going : is_some c.steps.core.stop ≡ false = cc in not_some _ going
 
 pub returns-in-Err-clause-cut : goal.returns-in-Err-clause-cut
 returns-in-Err-clause-cut g c =
-    let going : is_some c.steps.core.stop ≡ false = cc in
-    cut_in_step g.V.View.SELECTION (g.W.Out.writing c.args.out.now) (g.W.Out.writing c.steps.out)
-    (g.W.Out.writing c.write_selected.new.out) _ _ _ _ _ (omega arith)
-    (made_on _ _ _ c.steps.invariant.made c.steps.invariant.core (not_some _ going))
-    (c.write_selected.ensures.state ∙ after_on _ _ _ c.steps.invariant.core) c.steps.invariant.shown
-    c.in-Err.ensures.put.0 c.steps.invariant.core
+    cut_in_last g.V.View.SELECTION (g.W.Out.writing c.args.out.now) (g.W.Out.writing c.steps.out)
+    (g.W.Out.writing c.write_steps.new.out) _ _ _ _ _ _ c.steps.invariant.few c.steps.invariant.core
+    c.steps.invariant.made c.steps.invariant.shown c.in-Err.ensures.cut
+
+pub returns-in-Err-clause-error : goal.returns-in-Err-clause-error
+returns-in-Err-clause-error g c =
+    c.in-Err.ensures.cut.error ∙ ap (λ (n : ℕ). n + 1) c.steps.invariant.same
 
 pub returns-in-Ok-put_all-clause-written : goal.returns-in-Ok-put_all-clause-written
 returns-in-Ok-put_all-clause-written g c =

@@ -6,4 +6,4 @@ use Rattle.mpu_table.proofs.fetches.FetchWindows.new.Goals as goal
 
 pub returns : goal.returns
 returns c = λ m.
-    each_copy (IsGranted m) 32 _ no_fetches (none_granted m _ c.empty.ensures) (none_granted m no_fetches refl)
+    each_copy (IsGranted m) 64 _ no_fetches (none_granted m _ c.empty.ensures) (none_granted m no_fetches refl)

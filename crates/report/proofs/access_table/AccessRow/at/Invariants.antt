@@ -1,9 +1,0 @@
-use Rattle.std.proofs.Common.{◌≡◌, ◌≤◌}
-use Rattle.report.proofs.access_table.AccessRow.at.Given as goal
-
-abbrev pub invariant-columns : goal.invariant-columns
-invariant-columns l = record {
-  first : l.row.first ≡ l.fn.within.first;
-  some : l.fn.within.first ≤ l.row.last;
-  last : l.row.last ≤ l.fn.within.last;
-}
