@@ -3,5 +3,5 @@ mod Accessed
 mod AtOnce
 pub mod Fetches
 mod Refusals
-mod WordsSeen
+mod PeekedWords
 pub mod Stale

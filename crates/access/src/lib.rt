@@ -5,7 +5,7 @@
 mod bus;
 mod code_memory;
 pub mod laws;
-mod seeing;
+mod peeking;
 
 pub use bus::{Bus, fetch_at};
 pub use clock::{EagerSysTick, LazySysTick, Script, ScriptedEvent, SysTick, SysTickState};
@@ -16,5 +16,5 @@ pub use mpu::{Decider, GrantedSpan, Search};
 pub use nvic::{Exceptions, PlainExceptions};
 pub use platform::access::{Cause, Decision, DoneAccess, Kind, Performed, Request, Rule};
 pub use platform::stop::Stop;
-pub use scs::{System, SystemCopy};
+pub use scs::{SavedSystem, System};
 pub use space::{Layout, Space};

@@ -15,7 +15,7 @@ use Rattle.platform.specs.declared.mpu.Region.{Region}
 use Rattle.platform.specs.Kinds.{is_vector}
 use Rattle.platform.specs.Regions.{Mpu, is_on, matches, owner, owner_below, region}
 use Rattle.platform.specs.Rules.{after_regions, before_regions, by_owner, decision_of, default_map, first_of_two}
-use Rattle.platform.specs.Rules.{grants, is_never_executed, is_off_below_zero, is_ppb_data}
+use Rattle.platform.specs.Rules.{grants, is_fetch_from_system, is_off_below_zero, is_ppb_data}
 
 -- ---- before the regions
 
@@ -37,7 +37,7 @@ before_alike : (control a : ℕ) (kind : Kind) (y z : Bool)
 unfolding before_regions off_tail
 before_alike control a kind y z e =
     ap (λ (t : Option Decision).
-    if is_never_executed a kind then Some (record { rule = rule.NeverExecute; granted = false })
+    if is_fetch_from_system a kind then Some (record { rule = rule.ExecuteNever; granted = false })
     else if is_vector kind then Some (record { rule = rule.VectorRead; granted = true })
     else if is_ppb_data a kind then Some (record { rule = rule.PrivatePeripheralBus; granted = true })
     else t)

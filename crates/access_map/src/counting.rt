@@ -38,9 +38,9 @@ pub struct Worlds {
 
 impl Model for Worlds {
     ghost use Rattle.std.specs.Prelude.{◌≡◌, ◌≤◌, length};
-    ghost use Rattle.access_map.specs.Counting.{Worlds as Seen};
+    ghost use Rattle.access_map.specs.Counting.{Worlds as WorldsView};
 
-    ghost Value = { Seen };
+    ghost Value = { WorldsView };
 
     ghost view = { λ w. record { rows = w.rows.items; used = w.used; others = w.others } };
 

@@ -68,7 +68,7 @@ fn is_same_rule(rule: Rule, other: Rule) -> bool
     ensures { Decides result (rule ≡ other) }
 {
     match rule {
-        Rule::NeverExecute => matches!(other, Rule::NeverExecute),
+        Rule::ExecuteNever => matches!(other, Rule::ExecuteNever),
         Rule::VectorRead => matches!(other, Rule::VectorRead),
         Rule::PrivatePeripheralBus => matches!(other, Rule::PrivatePeripheralBus),
         Rule::MpuOff => matches!(other, Rule::MpuOff),

@@ -12,7 +12,7 @@ use crate::device_parts::{Effects, Span, Values};
 use crate::device_span::span_in;
 use crate::device_values::values_in;
 use crate::events::tables;
-use crate::found::Found;
+use crate::found_devices::FoundDevices;
 use crate::keys::{DEVICE_KEYS, has_only};
 use crate::values::find;
 use devices::{Device, Line, MAX_DEVICES};
@@ -22,7 +22,7 @@ use toml::{Table, Value};
 
 /// Returns the devices of a document, on a board with this layout, or the first refusal among them.
 #[tactic(auto, unfolding(crate::specs::Devices::devices_at))]
-pub fn devices_at(layout: &Layout, document: &Table) -> Result<Found, BoardError>
+pub fn devices_at(layout: &Layout, document: &Table) -> Result<FoundDevices, BoardError>
     ensures { Gives (λ found. found) result (devices_at (numbers_of layout.now) (table_view document.now)) }
 {
     let values = tables(find(document, "device"), MAX_DEVICES)?;
@@ -30,11 +30,11 @@ pub fn devices_at(layout: &Layout, document: &Table) -> Result<Found, BoardError
 }
 
 // The devices of a list of tables.
-fn devices_of(layout: &Layout, values: &[Value]) -> Result<Found, BoardError>
+fn devices_of(layout: &Layout, values: &[Value]) -> Result<FoundDevices, BoardError>
     requires { length values.now ≤ 256 }
     ensures { Gives (λ found. found) result (devices_in (numbers_of layout.now) 0 [] (items_view values.now)) }
 {
-    let mut found = Found::new();
+    let mut found = FoundDevices::new();
     let mut before = 0;
     'values: for value in values {
         let device = listed_device(layout, before, found.devices(), value)?;

@@ -115,10 +115,10 @@ impl SysTick {
     pub fn csr(&self) -> u32
         ensures { result ≡ spec.csr self.now }
     {
-        weighed(self.enable, 1)
-            + weighed(self.tickint, 1 << 1)
+        mask_if(self.enable, 1)
+            + mask_if(self.tickint, 1 << 1)
             + (1 << 2)
-            + weighed(self.countflag, 1 << 16)
+            + mask_if(self.countflag, 1 << 16)
     }
 
     /// Clears COUNTFLAG, as a read of SYST_CSR does.
@@ -165,8 +165,8 @@ impl SysTick {
 }
 
 /// What a bit of this weight adds to a word.
-fn weighed(bit: bool, weight: u32) -> u32
-    ensures { result ≡ registers.weighed bit weight }
+fn mask_if(bit: bool, weight: u32) -> u32
+    ensures { result ≡ registers.mask_if bit weight }
 {
     if bit { weight } else { 0 }
 }

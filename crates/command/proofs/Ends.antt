@@ -43,11 +43,12 @@ pub text_read : (bytes text : List ℕ) (result : Result TheBoard BoardError) �
 text_read bytes text result is_text same answers =
     rw (is_utf8-from_IsUtf8 bytes is_text) (read_as (board_of bytes) result (rw same at answers))
 
-no_text : (bytes : List ℕ) (test : Bool) → is_utf8 bytes ≡ test → ¬ IsUtf8 bytes → board_in_file bytes ≡ Err NotToml
-no_text bytes true e other = absurd (other (IsUtf8-from_is_utf8 bytes e))
-no_text bytes false e other = rw e refl
+non_utf8_argument : (bytes : List ℕ) (test : Bool) → is_utf8 bytes ≡ test → ¬ IsUtf8 bytes → board_in_file bytes
+    ≡ Err NotToml
+non_utf8_argument bytes true e other = absurd (other (IsUtf8-from_is_utf8 bytes e))
+non_utf8_argument bytes false e other = rw e refl
 
 -- other bytes aren't
 pub bytes_refused : (bytes : List ℕ) (error : BoardError) → ¬ IsUtf8 bytes → error ≡ NotToml
     → ReadsBoard (board_in_file bytes) (Err error)
-bytes_refused bytes error other same = rw same (inl (no_text bytes (is_utf8 bytes) refl other))
+bytes_refused bytes error other same = rw same (inl (non_utf8_argument bytes (is_utf8 bytes) refl other))

@@ -1,7 +1,7 @@
 -- What is read ahead, and what waits on a page.
 use Rattle.std.proofs.Common.{◌≡◌, [], List, ℕ, None, Option, Some, ap, append-nil, drop, refl, subst, take}
 use Rattle.std.specs.Io.KnownBytes.{append_known, prepend_known}
-use Rattle.command.specs.Program.{DoesOverStreams, DoesWords}
+use Rattle.command.specs.Program.{DoesOverStreams, DoesArgs}
 use Rattle.output.specs.Input.{Reading}
 use Rattle.output.specs.Output.{Writing, with_page}
 
@@ -28,7 +28,7 @@ pub does_over_streams : (words : List (List ℕ)) (before after : Reading) (old 
     (first last : Reading) (put sent : Writing) (ahead lost : List ℕ)
     → first.left ≡ prepend_known [] before.left → first.misses ≡ before.misses
     → last.left ≡ prepend_known ahead after.left → last.misses ≡ after.misses
-    → put ≡ old → sent ≡ with_page lost new → DoesWords words first last put sent status
+    → put ≡ old → sent ≡ with_page lost new → DoesArgs words first last put sent status
     → DoesOverStreams words before after old new status
 does_over_streams words before after old new status first last put sent ahead lost begins none ends missed begun went
     does = record {
@@ -39,6 +39,6 @@ does_over_streams words before after old new status first last put sent ahead lo
       ends = record { left = ends; misses = missed };
       lost = lost;
       does =
-          subst (λ (w : Writing). DoesWords words first last w (with_page lost new) status) begun
-          (subst (λ (w : Writing). DoesWords words first last put w status) went does);
+          subst (λ (w : Writing). DoesArgs words first last w (with_page lost new) status) begun
+          (subst (λ (w : Writing). DoesArgs words first last put w status) went does);
     }

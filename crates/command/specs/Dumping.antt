@@ -14,13 +14,13 @@ bytes_from m a zero = []
 bytes_from m a (suc n) = bytes_from m a n ++ option_to_list (byte_at m (word_sum a n))
 
 -- all of them are in memory
-unfoldable pub are_there : Memory → ℕ → ℕ → Bool
-are_there m a zero = true
-are_there m a (suc n) = are_there m a n && is_some (byte_at m (word_sum a n))
+unfoldable pub are_in_memory : Memory → ℕ → ℕ → Bool
+are_in_memory m a zero = true
+are_in_memory m a (suc n) = are_in_memory m a n && is_some (byte_at m (word_sum a n))
 
 -- all bytes of all dumps are
-abbrev pub have_all : Memory → List Dump → Bool
-have_all m dumps = list_all (λ d. are_there m d.address d.length) dumps
+abbrev pub are_all_in_memory : Memory → List Dump → Bool
+are_all_in_memory m dumps = list_all (λ d. are_in_memory m d.address d.length) dumps
 
 -- the bytes of a dump
 abbrev pub dump_bytes : Dump → State → List ℕ

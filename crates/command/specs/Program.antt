@@ -4,7 +4,7 @@ use Rattle.std.specs.Prelude.{string_bytes}
 use Rattle.std.specs.Io.KnownBytes.{prepend_known}
 use Rattle.command.specs.declared.error.Error.{Error}
 use Rattle.command.specs.declared.files.FileError.{FileError}
-use Rattle.command.specs.declared.running.Ran.{Ran}
+use Rattle.command.specs.declared.running.FinishedRun.{FinishedRun}
 use Rattle.command.specs.Dumping.{Dumps}
 use Rattle.command.specs.Gdb.{GdbTo}
 use Rattle.command.specs.Opening.{board_in_file}
@@ -19,8 +19,8 @@ use Rattle.command_line.specs.declared.dumps.Dump.{Dump}
 use Rattle.command_line.specs.declared.subcommands.RunOptions.{RunOptions}
 use Rattle.command_line.specs.declared.subcommands.Subcommand.{Subcommand}
 use Rattle.command_line.specs.declared.subcommands.Subcommand.TheVariants.{Run, Report, Tasks, Debug, Gdb}
-use Rattle.command_line.specs.declared.words.WordsError.{WordsError}
-use Rattle.command_line.specs.declared.words.WordsError.TheVariants.{Wrong, Help, Version, OutOfMemory}
+use Rattle.command_line.specs.declared.words.ArgsError.{ArgsError}
+use Rattle.command_line.specs.declared.words.ArgsError.TheVariants.{Wrong, Help, Version, OutOfMemory}
 use Rattle.output.specs.Input.{Reading}
 use Rattle.output.specs.Output.{Writing, with_page}
 use Rattle.platform.specs.declared.error.BoardError.{BoardError}
@@ -47,7 +47,7 @@ DumpsAll (dump ∷ dumps) s done =
     (DumpsToFile dump s true × DumpsAll dumps s done) ⊎ (DumpsToFile dump s false × (done ≡ false))
 
 -- the dumps of a run, where it was made
-abbrev pub DumpsAfter : List Dump → Result Ran Error → Bool → Type 0
+abbrev pub DumpsAfter : List Dump → Result FinishedRun Error → Bool → Type 0
 DumpsAfter dumps (Ok ran) done = DumpsAll dumps ran.machine.state done
 DumpsAfter dumps (Err error) done = Unit {0}
 
@@ -55,7 +55,7 @@ DumpsAfter dumps (Err error) done = Unit {0}
 pub record RunsAndSaves (image : Result (List Segment) LoadError) (board : Result Described BoardError)
     (run : RunOptions) (old new : Writing) (status : ℕ) : Type 0 where
   pub errors : ℕ
-  pub ran : Result Ran Error
+  pub ran : Result FinishedRun Error
   pub runs : RunsOn image board run old new (file_with 0) (file_with errors) ran
   pub done : Bool
   pub dumps : DumpsAfter run.dumps.items ran done
@@ -100,21 +100,21 @@ DoesSubcommand subcommand before after old new status =
 -- ---- with the arguments
 
 -- the answer to arguments that ask for no subcommand: help and the version go to standard output
-abbrev pub ReportsWordsError : WordsError → Writing → Writing → ℕ → Type 0
-ReportsWordsError (Wrong text) old new status = (status ≡ 2) × (new ≡ old)
-ReportsWordsError (Help text) old new status =
+abbrev pub ReportsArgsError : ArgsError → Writing → Writing → ℕ → Type 0
+ReportsArgsError (Wrong text) old new status = (status ≡ 2) × (new ≡ old)
+ReportsArgsError (Help text) old new status =
     (status ≡ 2) × (SendsAll (string_bytes text) old new ⊎ IsCut (string_bytes text) old new)
-ReportsWordsError (Version text) old new status =
+ReportsArgsError (Version text) old new status =
     ((status ≡ 0) × SendsAll (string_bytes text) old new) ⊎ ((status ≡ 5) × IsCut (string_bytes text) old new)
-ReportsWordsError OutOfMemory old new status = (status ≡ 5) × (new ≡ old)
+ReportsArgsError OutOfMemory old new status = (status ≡ 5) × (new ≡ old)
 
-abbrev pub DoesAsked : Result Subcommand WordsError → Reading → Reading → Writing → Writing → ℕ → Type 0
+abbrev pub DoesAsked : Result Subcommand ArgsError → Reading → Reading → Writing → Writing → ℕ → Type 0
 DoesAsked (Ok subcommand) before after old new status = DoesSubcommand subcommand before after old new status
-DoesAsked (Err error) before after old new status = ReportsWordsError error old new status × (after ≡ before)
+DoesAsked (Err error) before after old new status = ReportsArgsError error old new status × (after ≡ before)
 
 -- what the arguments ask for is done
-pub record DoesWords (words : List (List ℕ)) (before after : Reading) (old new : Writing) (status : ℕ) : Type 0 where
-  pub asked : Result Subcommand WordsError
+pub record DoesArgs (words : List (List ℕ)) (before after : Reading) (old new : Writing) (status : ℕ) : Type 0 where
+  pub asked : Result Subcommand ArgsError
   pub takes : TakesArguments words asked
   pub does : DoesAsked asked before after old new status
 
@@ -135,7 +135,7 @@ pub record DoesOverStreams (words : List (List ℕ)) (before after : Reading) (o
     pub ahead : List ℕ
     pub ends : ReadsAhead ahead last after
     pub lost : List ℕ
-    pub does : DoesWords words first last old (with_page lost new) status
+    pub does : DoesArgs words first last old (with_page lost new) status
 
 -- the program ends with this status, from streams with these bytes; what becomes of them is dropped with them
 pub record EndsWith (words : List (List ℕ)) (left written : Option (List ℕ)) (status : ℕ) : Type 0 where

@@ -5,8 +5,8 @@ use Rattle.std.specs.Str.{bytes_eq}
 use Rattle.command.specs.declared.error.Error.{Error}
 use Rattle.command.specs.declared.error.Error.TheVariants.{Io, Usage}
 use Rattle.command.specs.declared.opening.Opened.{Opened}
-use Rattle.command.specs.declared.running.Ran.{Ran}
-use Rattle.command.specs.Dumping.{have_all}
+use Rattle.command.specs.declared.running.FinishedRun.{FinishedRun}
+use Rattle.command.specs.Dumping.{are_all_in_memory}
 use Rattle.command.specs.Opening.{Opens}
 use Rattle.command.specs.Sending.{IsCut, SendsAll}
 use Rattle.command_line.specs.declared.subcommands.RunOptions.{RunOptions}
@@ -68,7 +68,7 @@ Traces run s old new (Ok why) = (why ≡ ending_of run.steps s) × SendsAll (out
 Traces run s old new (Err error) = (error ≡ Io) × IsCut (output_of run s) old new
 
 -- the same, and then the last state goes to its file; or a call of the file's writer failed
-abbrev pub Runs : RunOptions → State → Writing → Writing → Writing → Writing → Result Ran Error → Type 0
+abbrev pub Runs : RunOptions → State → Writing → Writing → Writing → Writing → Result FinishedRun Error → Type 0
 Runs run s old new file file' (Ok ran) =
     Traces run s old new (Ok ran.stop) × (ran.machine.state ≡ after run.steps s)
     × Saves (state_file (text_of run.state)) (after run.steps s) file file'
@@ -78,24 +78,27 @@ Runs run s old new file file' (Err error) =
     × FailsToSave (state_file (text_of run.state)) (after run.steps s) file file')
 
 -- nothing is run, and nothing is put
-abbrev pub RunsNothing : Error → Writing → Writing → Writing → Writing → Result Ran Error → Type 0
+abbrev pub RunsNothing : Error → Writing → Writing → Writing → Writing → Result FinishedRun Error → Type 0
 RunsNothing error old new file file' result = (result ≡ Err error) × (new ≡ old) × (file' ≡ file)
 
 -- a run, where all bytes that are to go to files are in memory; else the arguments are wrong
-abbrev pub RunsIf : Bool → RunOptions → State → Writing → Writing → Writing → Writing → Result Ran Error → Type 0
+abbrev pub RunsIf : Bool → RunOptions → State → Writing → Writing → Writing → Writing → Result FinishedRun Error
+    → Type 0
 RunsIf true run s old new file file' result = Runs run s old new file file' result
 RunsIf false run s old new file file' result = RunsNothing Usage old new file file' result
 
 -- a run of a machine before its first step; or a refusal
-abbrev pub RunsFrom : RunOptions → Result Opened Error → Writing → Writing → Writing → Writing → Result Ran Error
+abbrev pub RunsFrom : RunOptions → Result Opened Error → Writing → Writing → Writing → Writing
+    → Result FinishedRun Error
     → Type 0
 RunsFrom run (Ok opened) old new file file' result =
-    RunsIf (have_all opened.machine.state.bus.memory run.dumps.items) run opened.machine.state old new file file' result
+    RunsIf (are_all_in_memory opened.machine.state.bus.memory run.dumps.items) run opened.machine.state old new file
+    file' result
 RunsFrom run (Err error) old new file file' result = RunsNothing error old new file file' result
 
 -- an image is run on a board, and its last state goes to its file
 pub record RunsOn (image : Result (List Segment) LoadError) (board : Result Described BoardError) (run : RunOptions)
-    (old new file file' : Writing) (result : Result Ran Error) : Type 0 where
+    (old new file file' : Writing) (result : Result FinishedRun Error) : Type 0 where
   pub opened : Result Opened Error
   pub opens : Opens image board opened
   pub runs : RunsFrom run opened old new file file' result

@@ -5,7 +5,7 @@ use Rattle.command.specs.declared.error.Error.{Error}
 use Rattle.command.specs.declared.error.Error.TheVariants.{Usage, Load, Board, Start, Size, Io}
 use Rattle.command.specs.declared.files.FileError.{FileError}
 use Rattle.command.specs.declared.files.FileError.TheVariants as file
-use Rattle.command.specs.declared.running.Ran.{Ran}
+use Rattle.command.specs.declared.running.FinishedRun.{FinishedRun}
 use Rattle.platform.specs.declared.stop.Stop.{Stop}
 use Rattle.platform.specs.declared.stop.Stop.TheVariants as stop
 use Rattle.platform.specs.Text.{stop_text}
@@ -37,7 +37,7 @@ status_of expected (Ok why) = ending_status expected why
 status_of expected (Err error) = error_status error
 
 -- the status of a run after which the dumps were all written or not
-abbrev pub run_status : Option Stop → Result Ran Error → Bool → ℕ
+abbrev pub run_status : Option Stop → Result FinishedRun Error → Bool → ℕ
 run_status expected (Ok ran) done = if done then ending_status expected ran.stop else error_status Io
 run_status expected (Err error) done = error_status error
 

@@ -2,7 +2,7 @@
 
 ghost use Rattle.std.specs.Prelude.{◌≡◌, ◌≢◌, map, string_bytes};
 ghost use Rattle.command.specs.Opening.{board_in_file};
-ghost use Rattle.command.specs.Program.{ReportsWordsError, DoesSubcommand, DoesWords, EndsWith, CarriesOut};
+ghost use Rattle.command.specs.Program.{ReportsArgsError, DoesSubcommand, DoesArgs, EndsWith, CarriesOut};
 ghost use Rattle.command.specs.Program.{RunsAndSaves};
 ghost use Rattle.command.specs.Statuses.{error_status, file_status};
 ghost use Rattle.command.specs.declared.error.Error.TheVariants.{Io};
@@ -23,7 +23,7 @@ use crate::sending::send;
 use crate::state_file::StateFile;
 use crate::streams::over_streams;
 use crate::tasks_command::tasks;
-use command_line::{RunOptions, Subcommand, WordsError, subcommand_of};
+use command_line::{ArgsError, RunOptions, Subcommand, subcommand_of};
 use machine::{In, Out, Over};
 use messages::{Escaped, Messages};
 use std::io;
@@ -84,14 +84,14 @@ fn write_failure<E: Write>(name: &str, error: Option<io::Error>, err: &mut E) {
 }
 
 /// Does what the arguments ask for.
-pub fn do_words<R: Files + AllocGlobal, I: In, O: Out, E: Write>(
+pub fn do_args<R: Files + AllocGlobal, I: In, O: Out, E: Write>(
     rt: &R,
     words: &[String],
     input: &mut I,
     out: &mut O,
     err: &mut E,
 ) -> u8
-    ensures { DoesWords (map string_bytes words.now) (I.reading input.old) (I.reading input.new)
+    ensures { DoesArgs (map string_bytes words.now) (I.reading input.old) (I.reading input.new)
         (O.writing out.old) (O.writing out.new) result }
 {
     match subcommand_of(rt.alloc(), words) {
@@ -102,24 +102,24 @@ pub fn do_words<R: Files + AllocGlobal, I: In, O: Out, E: Write>(
 
 /// Answers arguments that ask for no subcommand. Returns 2; 0 for the version; 5 where the version can't be
 /// written or memory ran out.
-pub fn answer<O: Out, E: Write>(error: WordsError, out: &mut O, err: &mut E) -> u8
-    ensures { ReportsWordsError error (O.writing out.old) (O.writing out.new) result }
+pub fn answer<O: Out, E: Write>(error: ArgsError, out: &mut O, err: &mut E) -> u8
+    ensures { ReportsArgsError error (O.writing out.old) (O.writing out.new) result }
 {
     match error {
-        WordsError::Wrong(text) => {
+        ArgsError::Wrong(text) => {
             let status = write_error(Error::Usage, err);
             let _ = err.write_all(text.as_bytes());
             status
         }
-        WordsError::Help(text) => {
+        ArgsError::Help(text) => {
             let _ = send(text.as_bytes(), out);
             write_error(Error::Usage, err)
         }
-        WordsError::Version(text) => match send(text.as_bytes(), out) {
+        ArgsError::Version(text) => match send(text.as_bytes(), out) {
             Ok(()) => 0,
             Err(_) => write_error(Error::Io, err),
         },
-        WordsError::OutOfMemory => {
+        ArgsError::OutOfMemory => {
             let status = write_error(Error::Io, err);
             let _ = writeln!(err, "  no memory was found for the arguments");
             status
@@ -282,7 +282,7 @@ fn write_path_error<E: Write>(argument: &str, path: &str, error: &io::Error, err
 }
 
 /// Writes why the arguments can't be read, and returns the status: 2 where one isn't a text in UTF-8, else 5.
-pub fn refuse_words<E: Write>(error: &io::Error, err: &mut E) -> u8
+pub fn refuse_args<E: Write>(error: &io::Error, err: &mut E) -> u8
     ensures text { error_kind error.now ≡ kind.InvalidData → result ≡ 2 }
     ensures other { error_kind error.now ≢ kind.InvalidData → result ≡ 5 }
 {

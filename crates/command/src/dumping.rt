@@ -1,7 +1,7 @@
 //! The bytes of memory that go to files after a run.
 
 ghost use Rattle.std.specs.Prelude.{◌≡◌, IfOk, is_ok};
-ghost use Rattle.command.specs.Dumping.{Dumps, are_there, bytes_from, have_all};
+ghost use Rattle.command.specs.Dumping.{Dumps, are_in_memory, bytes_from, are_all_in_memory};
 ghost use Rattle.command.specs.Program.{DumpsAll, DumpsToFile};
 
 use crate::last_error::LastError;
@@ -22,11 +22,11 @@ pub struct FailedDump<'a> {
 }
 
 /// Returns whether all bytes of these dumps are in memory.
-pub fn have_all(machine: &Fast, dumps: &[Dump<'_>]) -> bool
-    ensures { result ≡ have_all machine.now.state.bus.memory dumps.now }
+pub fn are_all_in_memory(machine: &Fast, dumps: &[Dump<'_>]) -> bool
+    ensures { result ≡ are_all_in_memory machine.now.state.bus.memory dumps.now }
 {
     'dumps: for dump in dumps {
-        if !are_there(machine, dump) {
+        if !are_in_memory(machine, dump) {
             return false;
         }
     }
@@ -34,9 +34,9 @@ pub fn have_all(machine: &Fast, dumps: &[Dump<'_>]) -> bool
 }
 
 /// Returns whether all bytes of a dump are in memory.
-#[tactic(auto, unfolding(crate::specs::Dumping::are_there))]
-pub fn are_there(machine: &Fast, dump: &Dump<'_>) -> bool
-    ensures { result ≡ are_there machine.now.state.bus.memory dump.now.address dump.now.length }
+#[tactic(auto, unfolding(crate::specs::Dumping::are_in_memory))]
+pub fn are_in_memory(machine: &Fast, dump: &Dump<'_>) -> bool
+    ensures { result ≡ are_in_memory machine.now.state.bus.memory dump.now.address dump.now.length }
 {
     let mut there = true;
     'bytes: for index in 0..dump.length {

@@ -19,7 +19,7 @@ pub fn words<R: Env + AllocGlobal>(rt: &R) -> io::Result<Vec<String>> {
     let mut words = Vec::new(rt.alloc());
     let args = match env::args(rt) {
         Ok(args) => args,
-        Err(error) => return Err(placed(rt, error)),
+        Err(error) => return Err(with_position(rt, error)),
     };
     for word in args {
         words.push(word)?;
@@ -28,11 +28,11 @@ pub fn words<R: Env + AllocGlobal>(rt: &R) -> io::Result<Vec<String>> {
 }
 
 /// Returns the error of arguments that can't be read, with the place of the one that isn't a text.
-fn placed<R: Env + AllocGlobal>(rt: &R, error: io::Error) -> io::Error {
+fn with_position<R: Env + AllocGlobal>(rt: &R, error: io::Error) -> io::Error {
     if !matches!(error.kind(), io::ErrorKind::InvalidData) {
         return error;
     }
-    let message = match no_text(rt) {
+    let message = match non_utf8_argument(rt) {
         Some(place) => {
             format!(in rt.alloc();
                 "argument {place} isn't a text in UTF-8 (the program's name is argument 0)"
@@ -47,7 +47,7 @@ fn placed<R: Env + AllocGlobal>(rt: &R, error: io::Error) -> io::Error {
 }
 
 /// Returns the place of the first argument that isn't a text: 0 for the program's name.
-fn no_text<R: Env + AllocGlobal>(rt: &R) -> Option<usize> {
+fn non_utf8_argument<R: Env + AllocGlobal>(rt: &R) -> Option<usize> {
     let mut room = Vec::new(rt.alloc());
     if room.resize(MAX_ARGUMENT_BYTES, 0u8).is_err() {
         return None;

@@ -18,8 +18,8 @@ mod state_file;
 mod streams;
 mod tasks_command;
 
-pub use command_line::{Subcommand, WordsError};
-pub use commands::{answer, program, refuse_words};
+pub use command_line::{ArgsError, Subcommand};
+pub use commands::{answer, program, refuse_args};
 pub use debugging::debug;
 pub use error::{Error, write_error};
 pub use files::{FileError, InputFile, read_file, words};
@@ -27,5 +27,5 @@ pub use gdb_session::serve_gdb;
 pub use opening::{Opened, open};
 pub use reason::write_reason;
 pub use reporting::report;
-pub use running::{Ran, run};
+pub use running::{FinishedRun, run};
 pub use tasks_command::{TasksResult, tasks};

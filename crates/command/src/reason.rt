@@ -3,7 +3,7 @@
 ghost use Rattle.std.specs.Prelude.{◌≡◌};
 ghost use Rattle.command.specs.Statuses.{error_status};
 
-use crate::dumping::are_there;
+use crate::dumping::are_in_memory;
 use crate::error::{Error, write_error};
 use crate::files::InputFile;
 use crate::opening::{board_of_file, open};
@@ -97,7 +97,7 @@ pub fn write_dump_reason<E: Write>(
         return;
     };
     'dumps: for dump in dumps {
-        if !are_there(&opened.machine, dump) {
+        if !are_in_memory(&opened.machine, dump) {
             let _ = write_outside(err, dump, &opened.layout);
             return;
         }

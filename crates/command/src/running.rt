@@ -1,7 +1,7 @@
 //! A run from the bytes of an image and of a board to the bytes of a trace.
 
 ghost use Rattle.std.specs.Prelude.{◌≡◌, ◌⊎◌, false, OnOk};
-ghost use Rattle.command.specs.Dumping.{have_all};
+ghost use Rattle.command.specs.Dumping.{are_all_in_memory};
 ghost use Rattle.command.specs.Opening.{board_in_file};
 ghost use Rattle.command.specs.Running.{RunsIf, RunsOn, Saved, Traces, state_file, state_shown};
 ghost use Rattle.command.specs.Statuses.{ending_status};
@@ -10,7 +10,7 @@ ghost use Rattle.output.specs.Output.{Put};
 ghost use Rattle.platform.specs.Images.{image_of};
 ghost use Rattle.reference.specs.Run.{after};
 
-use crate::dumping::have_all;
+use crate::dumping::are_all_in_memory;
 use crate::error::{Error, stop_status};
 use crate::files::InputFile;
 use crate::opening::open;
@@ -24,7 +24,7 @@ use trace::lines::stop_line;
 
 /// A run that was made.
 #[derive(Drop)]
-pub struct Ran {
+pub struct FinishedRun {
     /// Why it ended.
     pub stop: Stop,
     /// The machine after it.
@@ -41,7 +41,7 @@ pub fn run<O: Out, S: Out>(
     options: &RunOptions<'_>,
     out: &mut O,
     state: &mut S,
-) -> Result<Ran, Error>
+) -> Result<FinishedRun, Error>
     ensures { RunsOn (image_of image.entry.bytes.now) (board_in_file board.entry.bytes.now) options.entry.now
         (O.writing out.old) (O.writing out.new) (S.writing state.old) (S.writing state.new) result }
 {
@@ -55,18 +55,19 @@ fn run_opened<O: Out, S: Out>(
     options: &RunOptions<'_>,
     out: &mut O,
     state: &mut S,
-) -> Result<Ran, Error>
+) -> Result<FinishedRun, Error>
     requires { machine.broken ≡ false }
-    ensures { RunsIf (have_all machine.state.bus.memory options.entry.now.dumps.items) options.entry.now machine.state
+    ensures { RunsIf (are_all_in_memory machine.state.bus.memory options.entry.now.dumps.items) options.entry.now
+        machine.state
         (O.writing out.old) (O.writing out.new) (S.writing state.old) (S.writing state.new) result }
 {
-    if !have_all(&machine, options.dumps.as_slice()) {
+    if !are_all_in_memory(&machine, options.dumps.as_slice()) {
         return Err(Error::Usage);
     }
     let mut machine = machine;
     let stop = run_through(&mut machine, options, out)?;
     save(&machine, state_file(options.state), state)?;
-    Ok(Ran { stop, machine })
+    Ok(FinishedRun { stop, machine })
 }
 
 /// Returns the status of a stop. Writes what was expected where it is another stop.

@@ -3,7 +3,7 @@
 ghost use Rattle.std.specs.Prelude.{◌≡◌, true, [], map, string_bytes};
 ghost use Rattle.command.specs.Program.{DoesOverStreams};
 
-use crate::commands::do_words;
+use crate::commands::do_args;
 use crate::last_error::LastError;
 use machine::{Buffered, In, Out, Over, Paged};
 use std::io::{Read, Write};
@@ -56,7 +56,7 @@ pub fn over_streams<
     let out: Stream<W, K> = Over::new(LastError::new(out), sent);
     let mut input = Buffered::new(input);
     let mut out = Paged::new(out);
-    let status = do_words(rt, words, &mut input, &mut out, err);
+    let status = do_args(rt, words, &mut input, &mut out, err);
     Ended {
         status,
         input: input.into_inner(),

@@ -12,7 +12,7 @@ use Rattle.command_line.specs.Notices.{ReadsValue, Refuses, TakesArguments, noti
 use Rattle.command_line.specs.Commands.{marm}
 use Rattle.command_line.specs.Subcommands.{IsAsked}
 use Rattle.command_line.specs.declared.subcommands.Subcommand.{Subcommand}
-use Rattle.command_line.specs.declared.words.WordsError.{WordsError}
+use Rattle.command_line.specs.declared.words.ArgsError.{ArgsError}
 
 pub simple : is_simple marm ≡ true
 simple = refl
@@ -20,7 +20,7 @@ simple = refl
 pub simple_and_free : is_simple_and_free marm ≡ true
 simple_and_free = refl
 
-pub taken : (words : List Text) (rows : Option (Text × List Row)) (result : Result Subcommand WordsError)
+pub taken : (words : List Text) (rows : Option (Text × List Row)) (result : Result Subcommand ArgsError)
     → fault_of marm words ≡ [] → rows ≡ subcommand_of marm words → ReadsValue (IsAsked rows) result
     → TakesArguments words result
 taken words rows (Ok subcommand) none same h =
@@ -31,7 +31,7 @@ taken words rows (Err error) none same (inl wrong) =
 taken words rows (Err error) none same (inr wanting) = inl wanting
 
 pub taken_as : (words : List Text) (app : App) (rows : Option (Text × List Row)) (found wanted : List Row)
-    (result : Result Subcommand WordsError) → app ≡ marm
+    (result : Result Subcommand ArgsError) → app ≡ marm
     → (is_simple app ≡ true → (found ≡ wanted) × (rows ≡ subcommand_of app words))
     → (is_simple_and_free app ≡ true → fault_of app words ≡ []) → ReadsValue (IsAsked rows) result
     → TakesArguments words result
@@ -41,22 +41,22 @@ taken_as words app rows found wanted result is matches none h =
     taken words rows result (subst (λ (a : App). fault_of a words ≡ []) is free)
     (subst (λ (a : App). rows ≡ subcommand_of a words) is met) h
 
-by_kind : (words : List Text) (k : ErrorKind) (error : WordsError) → IsAmong k (fault_of marm words) → Refuses k error
+by_kind : (words : List Text) (k : ErrorKind) (error : ArgsError) → IsAmong k (fault_of marm words) → Refuses k error
     → TakesArguments words (Err error)
 by_kind words k error among (inl same) = inr (inl (k, among, same))
 by_kind words k error among (inr wanting) = inl wanting
 
-by_memory : (words : List Text) (k : ErrorKind) (error : WordsError) → k ≡ kind.OutOfMemory → Refuses k error
+by_memory : (words : List Text) (k : ErrorKind) (error : ArgsError) → k ≡ kind.OutOfMemory → Refuses k error
     → TakesArguments words (Err error)
 by_memory words k error e (inl same) = inl (same ∙ ap notice_for e)
 by_memory words k error e (inr wanting) = inl wanting
 
-by_kinds : (words : List Text) (e : Error) (error : WordsError) → HasKind (fault_of marm words) e
+by_kinds : (words : List Text) (e : Error) (error : ArgsError) → HasKind (fault_of marm words) e
     → Refuses (kind_of e) error → TakesArguments words (Err error)
 by_kinds words e error (inl wanting) h = by_memory words (kind_of e) error wanting h
 by_kinds words e error (inr among) h = by_kind words (kind_of e) error among h
 
-pub refused : (words : List Text) (app : App) (e : Error) (error : WordsError) → app ≡ marm
+pub refused : (words : List Text) (app : App) (e : Error) (error : ArgsError) → app ≡ marm
     → (is_simple_and_free app ≡ true → HasKind (fault_of app words) e) → Refuses (kind_of e) error
     → TakesArguments words (Err error)
 refused words app e error is fails h =

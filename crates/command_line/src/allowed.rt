@@ -7,7 +7,7 @@ ghost use Rattle.command_line.specs.Subcommands.{texts_in};
 
 use crate::dumps::parts_at;
 use crate::subcommands::wrong_value;
-use crate::words::WordsError;
+use crate::words::ArgsError;
 use debugger_commands::number;
 use mpu::Span;
 use std::alloc::Global;
@@ -21,7 +21,7 @@ const ALLOW_ADVICE: &str = "\
 ";
 
 /// Returns the spans of addresses that texts ask for, in their order.
-pub fn spans_in<'a>(alloc: Global, texts: Option<&[&'a str]>) -> Result<Vec<Span>, WordsError>
+pub fn spans_in<'a>(alloc: Global, texts: Option<&[&'a str]>) -> Result<Vec<Span>, ArgsError>
     ensures { ReadsValue (λ spans. AreAllowed (texts_in texts.entry) spans.items) result }
 {
     match texts {
@@ -32,7 +32,7 @@ pub fn spans_in<'a>(alloc: Global, texts: Option<&[&'a str]>) -> Result<Vec<Span
 
 /// Returns the spans of addresses that texts ask for, in their order.
 #[tactic(auto, using(crate::proofs::Allowing::allowing))]
-fn spans_named<'a>(alloc: Global, texts: &[&'a str]) -> Result<Vec<Span>, WordsError>
+fn spans_named<'a>(alloc: Global, texts: &[&'a str]) -> Result<Vec<Span>, ArgsError>
     ensures { ReadsValue (λ spans. AreAllowed (map (λ t. t.now) texts.entry.now) spans.items) result }
 {
     if texts.len() > MAX_SPANS {
@@ -43,7 +43,7 @@ fn spans_named<'a>(alloc: Global, texts: &[&'a str]) -> Result<Vec<Span>, WordsE
         match span_named(text) {
             Some(span) => {
                 if spans.push(span).is_err() {
-                    return Err(WordsError::OutOfMemory);
+                    return Err(ArgsError::OutOfMemory);
                 }
             }
             None => return Err(wrong_span(alloc, text)),
@@ -53,7 +53,7 @@ fn spans_named<'a>(alloc: Global, texts: &[&'a str]) -> Result<Vec<Span>, WordsE
 }
 
 /// Returns the error of a text that asks for no span, or is one too many.
-fn wrong_span(alloc: Global, text: &str) -> WordsError
+fn wrong_span(alloc: Global, text: &str) -> ArgsError
     ensures { (notice_of result ≡ usage) ⊎ (notice_of result ≡ memory) }
 {
     wrong_value(alloc, text, "--allow <A-B>", ALLOW_ADVICE)

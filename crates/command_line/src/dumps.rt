@@ -6,7 +6,7 @@ ghost use Rattle.command_line.specs.Notices.{ReadsValue, memory, notice_of, usag
 ghost use Rattle.command_line.specs.Subcommands.{texts_in};
 
 use crate::subcommands::wrong_value;
-use crate::words::WordsError;
+use crate::words::ArgsError;
 use debugger_commands::{number, number_within};
 use std::alloc::Global;
 
@@ -31,7 +31,7 @@ pub struct Dump<'a> {
 }
 
 /// Returns the dumps that texts ask for, in their order.
-pub fn dumps_in<'a>(alloc: Global, texts: Option<&[&'a str]>) -> Result<Vec<Dump<'a>>, WordsError>
+pub fn dumps_in<'a>(alloc: Global, texts: Option<&[&'a str]>) -> Result<Vec<Dump<'a>>, ArgsError>
     ensures { ReadsValue (λ dumps. AreDumps (texts_in texts.entry) dumps.items) result }
 {
     match texts {
@@ -42,7 +42,7 @@ pub fn dumps_in<'a>(alloc: Global, texts: Option<&[&'a str]>) -> Result<Vec<Dump
 
 /// Returns the dumps that texts ask for, in their order.
 #[tactic(auto, using(crate::proofs::Dumping::dumping))]
-fn dumps_named<'a>(alloc: Global, texts: &[&'a str]) -> Result<Vec<Dump<'a>>, WordsError>
+fn dumps_named<'a>(alloc: Global, texts: &[&'a str]) -> Result<Vec<Dump<'a>>, ArgsError>
     ensures { ReadsValue (λ dumps. AreDumps (map (λ t. t.now) texts.entry.now) dumps.items) result }
 {
     if texts.len() > MAX_DUMPS {
@@ -53,7 +53,7 @@ fn dumps_named<'a>(alloc: Global, texts: &[&'a str]) -> Result<Vec<Dump<'a>>, Wo
         match dump_named(text) {
             Some(dump) => {
                 if dumps.push(dump).is_err() {
-                    return Err(WordsError::OutOfMemory);
+                    return Err(ArgsError::OutOfMemory);
                 }
             }
             None => return Err(wrong_dump(alloc, text)),
@@ -63,7 +63,7 @@ fn dumps_named<'a>(alloc: Global, texts: &[&'a str]) -> Result<Vec<Dump<'a>>, Wo
 }
 
 /// Returns the error of a text that asks for no dump, or is one too many.
-fn wrong_dump(alloc: Global, text: &str) -> WordsError
+fn wrong_dump(alloc: Global, text: &str) -> ArgsError
     ensures { (notice_of result ≡ usage) ⊎ (notice_of result ≡ memory) }
 {
     wrong_value(alloc, text, "--dump <ADDR:LENGTH=FILE>", DUMP_ADVICE)

@@ -18,4 +18,4 @@ pub use subcommands::{
     DebugOptions, GdbOptions, ReportOptions, RunOptions, STEPS_ADVICE, Subcommand, TasksOptions,
 };
 pub use texts::AFTER_DEBUG;
-pub use words::{WordsError, subcommand_of};
+pub use words::{ArgsError, subcommand_of};

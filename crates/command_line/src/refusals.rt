@@ -7,25 +7,25 @@ ghost use Rattle.command_line.specs.Notices.{Refuses, memory, notice_of, usage};
 use crate::commands::marm;
 use crate::subcommands::STEPS_ADVICE;
 use crate::texts::{COMMANDS_ADVICE, DASH_ADVICE, DASH_TIP};
-use crate::words::WordsError;
+use crate::words::ArgsError;
 use clap::Error;
 use clap::error::ErrorKind;
 use messages::Escaped;
 use std::alloc::{AllocError, Global};
 
 /// Returns the notice for an error that `clap` finds in arguments, with its text.
-pub fn error_of(alloc: Global, error: &Error, words: &[String]) -> WordsError
+pub fn error_of(alloc: Global, error: &Error, words: &[String]) -> ArgsError
     ensures { Refuses (kind_of error.now) result }
 {
     let Ok(text) = text_of(alloc, error, words) else {
-        return WordsError::OutOfMemory;
+        return ArgsError::OutOfMemory;
     };
     match error.kind() {
-        ErrorKind::OutOfMemory => WordsError::OutOfMemory,
+        ErrorKind::OutOfMemory => ArgsError::OutOfMemory,
         ErrorKind::DisplayHelp | ErrorKind::DisplayHelpOnMissingArgumentOrSubcommand => {
-            WordsError::Help(text)
+            ArgsError::Help(text)
         }
-        ErrorKind::DisplayVersion => WordsError::Version(text),
+        ErrorKind::DisplayVersion => ArgsError::Version(text),
         ErrorKind::ValueValidation => advised(text, STEPS_ADVICE),
         ErrorKind::InvalidSubcommand => advised(text, COMMANDS_ADVICE),
         ErrorKind::UnknownArgument => advised_of_dash(text),
@@ -38,7 +38,7 @@ pub fn error_of(alloc: Global, error: &Error, words: &[String]) -> WordsError
         | ErrorKind::MissingRequiredArgument
         | ErrorKind::MissingSubcommand
         | ErrorKind::Io
-        | ErrorKind::Format => WordsError::Wrong(text),
+        | ErrorKind::Format => ArgsError::Wrong(text),
     }
 }
 
@@ -73,24 +73,24 @@ fn shown(alloc: Global, words: &[String]) -> Result<Vec<String>, AllocError> {
 }
 
 /// Returns the notice for an error whose text doesn't say what to write instead.
-fn advised(text: String, advice: &str) -> WordsError
+fn advised(text: String, advice: &str) -> ArgsError
     ensures { (notice_of result ≡ usage) ⊎ (notice_of result ≡ memory) }
 {
     let mut text = text;
     match text.push_str(advice) {
-        Ok(()) => WordsError::Wrong(text),
-        Err(_) => WordsError::OutOfMemory,
+        Ok(()) => ArgsError::Wrong(text),
+        Err(_) => ArgsError::OutOfMemory,
     }
 }
 
 /// Returns the notice for a word that isn't taken. `clap` says of one that begins with `-` that it can be
 /// a value, which is so for an image alone.
-fn advised_of_dash(text: String) -> WordsError
+fn advised_of_dash(text: String) -> ArgsError
     ensures { (notice_of result ≡ usage) ⊎ (notice_of result ≡ memory) }
 {
     if text.as_str().contains(DASH_TIP) {
         advised(text, DASH_ADVICE)
     } else {
-        WordsError::Wrong(text)
+        ArgsError::Wrong(text)
     }
 }

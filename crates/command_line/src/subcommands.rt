@@ -14,7 +14,7 @@ use crate::allowed::spans_in;
 use crate::commands::{MAX_SLOTS, MAX_STEPS};
 use crate::dumps::{Dump, dumps_in};
 use crate::stops::{stop_named, without_stop};
-use crate::words::WordsError;
+use crate::words::ArgsError;
 use clap::ArgMatches;
 use messages::Escaped;
 use mpu::Span;
@@ -136,12 +136,12 @@ impl<'a> Subcommand<'a> {
 pub fn subcommand_in<'a>(
     alloc: Global,
     matches: &ArgMatches<'a>,
-) -> Result<Subcommand<'a>, WordsError>
+) -> Result<Subcommand<'a>, ArgsError>
     ensures { ReadsValue (IsAsked (subcommand_rows_of matches.now)) result }
 {
     match matches.subcommand() {
         Some((name, matches)) => subcommand_named(alloc, name, matches),
-        None => Err(WordsError::Wrong(String::new(alloc))),
+        None => Err(ArgsError::Wrong(String::new(alloc))),
     }
 }
 
@@ -150,7 +150,7 @@ fn subcommand_named<'a>(
     alloc: Global,
     name: &str,
     matches: &ArgMatches<'a>,
-) -> Result<Subcommand<'a>, WordsError>
+) -> Result<Subcommand<'a>, ArgsError>
     ensures { ReadsValue (IsNamed name.now (rows_of (found_of matches.now))) result }
 {
     if name == "run" {
@@ -164,12 +164,12 @@ fn subcommand_named<'a>(
     } else if name == "gdb" {
         Ok(Subcommand::Gdb(gdb_options(alloc, matches)?))
     } else {
-        Err(WordsError::Wrong(String::new(alloc)))
+        Err(ArgsError::Wrong(String::new(alloc)))
     }
 }
 
 /// Returns the options of `run`.
-fn run_options<'a>(alloc: Global, run: &ArgMatches<'a>) -> Result<RunOptions<'a>, WordsError>
+fn run_options<'a>(alloc: Global, run: &ArgMatches<'a>) -> Result<RunOptions<'a>, ArgsError>
     ensures { ReadsValue (IsRun (rows_of (found_of run.now))) result }
 {
     Ok(RunOptions {
@@ -187,7 +187,7 @@ fn run_options<'a>(alloc: Global, run: &ArgMatches<'a>) -> Result<RunOptions<'a>
 fn report_options<'a>(
     alloc: Global,
     report: &ArgMatches<'a>,
-) -> Result<ReportOptions<'a>, WordsError>
+) -> Result<ReportOptions<'a>, ArgsError>
     ensures { ReadsValue (IsReport (rows_of (found_of report.now))) result }
 {
     Ok(ReportOptions {
@@ -198,7 +198,7 @@ fn report_options<'a>(
 }
 
 /// Returns the options of `tasks`.
-fn tasks_options<'a>(alloc: Global, tasks: &ArgMatches<'a>) -> Result<TasksOptions<'a>, WordsError>
+fn tasks_options<'a>(alloc: Global, tasks: &ArgMatches<'a>) -> Result<TasksOptions<'a>, ArgsError>
     ensures { ReadsValue (IsTasks (rows_of (found_of tasks.now))) result }
 {
     Ok(TasksOptions {
@@ -211,7 +211,7 @@ fn tasks_options<'a>(alloc: Global, tasks: &ArgMatches<'a>) -> Result<TasksOptio
 }
 
 /// Returns the options of `debug`.
-fn debug_options<'a>(alloc: Global, debug: &ArgMatches<'a>) -> Result<DebugOptions<'a>, WordsError>
+fn debug_options<'a>(alloc: Global, debug: &ArgMatches<'a>) -> Result<DebugOptions<'a>, ArgsError>
     ensures { ReadsValue (IsDebug (rows_of (found_of debug.now))) result }
 {
     Ok(DebugOptions {
@@ -222,7 +222,7 @@ fn debug_options<'a>(alloc: Global, debug: &ArgMatches<'a>) -> Result<DebugOptio
 }
 
 /// Returns the options of `gdb`.
-fn gdb_options<'a>(alloc: Global, gdb: &ArgMatches<'a>) -> Result<GdbOptions<'a>, WordsError>
+fn gdb_options<'a>(alloc: Global, gdb: &ArgMatches<'a>) -> Result<GdbOptions<'a>, ArgsError>
     ensures { ReadsValue (IsGdb (rows_of (found_of gdb.now))) result }
 {
     Ok(GdbOptions {
@@ -257,17 +257,17 @@ fn values_of<'m, 'a>(matches: &'m ArgMatches<'a>, id: &str) -> Option<&'m [&'a s
 }
 
 /// Returns the text of an argument that `clap` has found.
-fn text_in<'a>(alloc: Global, text: Option<&'a str>) -> Result<&'a str, WordsError>
+fn text_in<'a>(alloc: Global, text: Option<&'a str>) -> Result<&'a str, ArgsError>
     ensures { ReadsValue (IsText (text_of text.entry)) result }
 {
     match text {
         Some(text) => Ok(text),
-        None => Err(WordsError::Wrong(String::new(alloc))),
+        None => Err(ArgsError::Wrong(String::new(alloc))),
     }
 }
 
 /// Returns the number of steps in a text.
-fn steps_in(alloc: Global, text: Option<&str>) -> Result<u64, WordsError>
+fn steps_in(alloc: Global, text: Option<&str>) -> Result<u64, ArgsError>
     ensures { ReadsValue (HasSteps (text_of text.entry)) result }
 {
     let text = text_in(alloc, text)?;
@@ -278,7 +278,7 @@ fn steps_in(alloc: Global, text: Option<&str>) -> Result<u64, WordsError>
 }
 
 /// Returns the number of steps in a text, 2^32 where there is none.
-fn limit_in(alloc: Global, text: Option<&str>) -> Result<u64, WordsError>
+fn limit_in(alloc: Global, text: Option<&str>) -> Result<u64, ArgsError>
     ensures { ReadsValue (HasLimit (text_of text.entry)) result }
 {
     match text {
@@ -288,7 +288,7 @@ fn limit_in(alloc: Global, text: Option<&str>) -> Result<u64, WordsError>
 }
 
 /// Returns the number of slots in a text, 0 where there is none.
-fn slots_in(alloc: Global, text: Option<&str>) -> Result<u8, WordsError>
+fn slots_in(alloc: Global, text: Option<&str>) -> Result<u8, ArgsError>
     ensures { ReadsValue (HasSlots (text_of text.entry)) result }
 {
     let Some(text) = text else {
@@ -326,7 +326,7 @@ fn has_plus(text: &str) -> bool
 }
 
 /// Returns the selection that is asked for: all events where none is named.
-fn selection_in(alloc: Global, name: Option<&str>) -> Result<TraceSelection, WordsError>
+fn selection_in(alloc: Global, name: Option<&str>) -> Result<TraceSelection, ArgsError>
     ensures { ReadsValue (IsSelection (text_of name.entry)) result }
 {
     let Some(name) = name else {
@@ -360,7 +360,7 @@ fn selection_named(name: &str) -> Option<TraceSelection>
 }
 
 /// Returns the stop that is expected.
-fn stop_in(alloc: Global, words: Option<&str>) -> Result<Option<Stop>, WordsError>
+fn stop_in(alloc: Global, words: Option<&str>) -> Result<Option<Stop>, ArgsError>
     ensures { ReadsValue (IsExpected (text_of words.entry)) result }
 {
     let Some(words) = words else {
@@ -388,12 +388,12 @@ lockup, or unpredictable or outofprofile and a name.
 ";
 
 /// Returns the error of an option's value that isn't allowed, with what is.
-pub fn wrong_value(alloc: Global, value: &str, option: &str, advice: &str) -> WordsError
+pub fn wrong_value(alloc: Global, value: &str, option: &str, advice: &str) -> ArgsError
     ensures { (notice_of result ≡ usage) ⊎ (notice_of result ≡ memory) }
 {
     let value = Escaped(value);
     match format!(in alloc; "error: invalid value '{value}' for '{option}'\n{advice}") {
-        Ok(text) => WordsError::Wrong(text),
-        Err(_) => WordsError::OutOfMemory,
+        Ok(text) => ArgsError::Wrong(text),
+        Err(_) => ArgsError::OutOfMemory,
     }
 }

@@ -10,7 +10,7 @@ use std::alloc::Global;
 
 /// Why the arguments ask for no subcommand.
 #[derive(Drop)]
-pub enum WordsError {
+pub enum ArgsError {
     /// They are wrong: why, and the usage.
     Wrong(String),
     /// They ask for help: its text.
@@ -22,11 +22,11 @@ pub enum WordsError {
 }
 
 /// Returns the subcommand that the arguments ask for; the first one is the program's name.
-pub fn subcommand_of<'a>(alloc: Global, words: &'a [String]) -> Result<Subcommand<'a>, WordsError>
+pub fn subcommand_of<'a>(alloc: Global, words: &'a [String]) -> Result<Subcommand<'a>, ArgsError>
     ensures { TakesArguments (map string_bytes words.entry.now) result }
 {
     let Ok(command) = marm(alloc) else {
-        return Err(WordsError::OutOfMemory);
+        return Err(ArgsError::OutOfMemory);
     };
     match command.try_get_matches_from(words) {
         Ok(matches) => subcommand_in(alloc, &matches),

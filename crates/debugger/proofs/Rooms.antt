@@ -11,7 +11,7 @@ use Rattle.std.proofs.lemmas.List.Elements.{All-push, All-set}
 use Rattle.debugger.specs.Answers.{after_edge, answer, answer_by, change_piece, changed_piece, closed}
 use Rattle.debugger.specs.Answers.{closing_piece, back_piece, edge_signal, ends_at, hit_before, is_closed, placed}
 use Rattle.debugger.specs.Answers.{replies, run_on, run_pieces, saved_after, task_on, task_piece, task_pieces}
-use Rattle.debugger.specs.Held.{Held, held_after, held_after_line, held_first, holding, kept_of}
+use Rattle.debugger.specs.Held.{Held, held_after, held_after_line, held_first, holding, data_of}
 use Rattle.debugger.specs.Sessions.{SessionData, after_line, debugging, is_line_feed, line_asked, next, opened}
 use Rattle.debugger.specs.Sessions.{session_of}
 use Rattle.debugger.specs.Slots.{HaveRoom, Slot, saved_in, saved_there, slots_after}
@@ -24,7 +24,7 @@ use Rattle.debugger_commands.specs.declared.conditions.Hit.{Hit}
 use Rattle.debugger_commands.specs.Commands.{change_of, quits, steps_of, task_steps_of}
 use Rattle.debugger_commands.specs.Conditions.{first_hit}
 use Rattle.debugger_commands.specs.Settings.{Settings, opened_settings, settings_after, without_conditions}
-use Rattle.machine.specs.Foresight.{is_instruction_next}
+use Rattle.machine.specs.NextStep.{is_instruction_next}
 use Rattle.platform.specs.declared.error.PlaceError.{PlaceError}
 use Rattle.platform.specs.declared.exception.TheConstants.{MAX_INTERRUPTS}
 use Rattle.platform.specs.declared.script.Signal.TheVariants as signal
@@ -198,19 +198,19 @@ saved_same s slots (Some (change.Save slot)) =
 saved_same s slots (Some (change.Back slot)) = refl
 
 -- so what is held after a byte is what the session keeps
-pub holds : (h : Held) (s : State) (byte : ℕ) → kept_of (held_after h s byte) ≡ next (kept_of h) s byte
+pub holds : (h : Held) (s : State) (byte : ℕ) → data_of (held_after h s byte) ≡ next (data_of h) s byte
 holds h s byte = split (is_line_feed byte) refl
   where
-    split : (b : Bool) → is_line_feed byte ≡ b → kept_of (held_after h s byte) ≡ next (kept_of h) s byte
+    split : (b : Bool) → is_line_feed byte ≡ b → data_of (held_after h s byte) ≡ next (data_of h) s byte
     split true e =
         rw e
-        (ap (λ (saved : List (Option State)). record (after_line (kept_of h) s) { saved = saved })
-        (saved_same s h.slots (change_of (line_asked (kept_of h)))))
+        (ap (λ (saved : List (Option State)). record (after_line (data_of h) s) { saved = saved })
+        (saved_same s h.slots (change_of (line_asked (data_of h)))))
     split false e = rw e refl
 
 -- what is held after the answer to a line
 pub line_held : (h : Held) (s : State) (new : Held) (line : Option (List ℕ)) (asked : Result Command LineError)
-    (quit : Bool) → asked ≡ line_asked (kept_of h) → line ≡ Some [] → quit ≡ quits asked
+    (quit : Bool) → asked ≡ line_asked (data_of h) → line ≡ Some [] → quit ≡ quits asked
     → new ≡ record {
       settings = settings_after h.settings asked;
       line = line;
@@ -245,7 +245,7 @@ one_made n slots more slot s h empty same longer =
       room = All-push (λ (x : Slot). AreOfOneBoard x.state.bus m) slots slot h.room fits;
     })
 
-opened_is : (board : Numbers) (slots : List Slot) → kept_of (held_first board slots) ≡ opened board (saved_in slots)
+opened_is : (board : Numbers) (slots : List Slot) → data_of (held_first board slots) ≡ opened board (saved_in slots)
 opened_is board slots =
     ap (λ (n : ℕ). record (opened board (saved_in slots)) { settings = opened_settings board n })
     (sym (length-map slots (λ (x : Slot). saved_there x)))
@@ -255,5 +255,5 @@ pub session_is : (board : Numbers) (slots : List Slot) (h : Held) (s : State) �
     → course_of holding h s ≡ session_of board (saved_in slots) s
 unfolding session_of
 session_is board slots h s e =
-    course_seen kept_of held_after debugging holds h s
-    ∙ ap (λ (k : SessionData). course_of debugging k s) (ap kept_of e ∙ opened_is board slots)
+    course_seen data_of held_after debugging holds h s
+    ∙ ap (λ (k : SessionData). course_of debugging k s) (ap data_of e ∙ opened_is board slots)

@@ -18,7 +18,7 @@ use Rattle.debugger_commands.specs.Commands.{change_of, part_of, quits, steps_of
 use Rattle.debugger_commands.specs.Conditions.{first_hit, run_end_text, written}
 use Rattle.debugger_commands.specs.Settings.{Settings, ok_text, settings_after, settings_text, without_conditions}
 use Rattle.debugger_commands.specs.Texts.{decision_text, help_text, memory_text, region_lines}
-use Rattle.machine.specs.Foresight.{is_instruction_next, next_kind_of}
+use Rattle.machine.specs.NextStep.{is_instruction_next, next_kind_of}
 use Rattle.machine.specs.Tasks.{end_of}
 use Rattle.machine.specs.Values.{values_of}
 use Rattle.platform.specs.declared.error.PlaceError.{PlaceError}
@@ -39,8 +39,8 @@ use Rattle.reference.specs.Step.{step}
 use Rattle.serving.specs.Pieces.{Piece, last_state}
 use Rattle.platform.specs.Text.{hex_word, line_feed, stop_line, stop_text}
 use Rattle.platform.specs.Events.{lines}
-use Rattle.task_laws.specs.declared.foresight.StepKind.{StepKind}
-use Rattle.task_laws.specs.declared.foresight.StepKind.TheVariants as kind
+use Rattle.task_laws.specs.declared.next_step.StepKind.{StepKind}
+use Rattle.task_laws.specs.declared.next_step.StepKind.TheVariants as kind
 use Rattle.task_laws.specs.declared.task.TaskEnd.{TaskEnd}
 use Rattle.task_laws.specs.declared.task.TaskEnd.TheVariants as task_end
 use Rattle.task_laws.specs.Tasks.{is_task}

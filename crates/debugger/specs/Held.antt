@@ -17,8 +17,8 @@ pub record Held : Type 0 where
   pub is_open : Bool
 
 -- what the session keeps of it
-abbrev pub kept_of : Held → SessionData
-kept_of h = record { settings = h.settings; line = h.line; saved = saved_in h.slots; is_open = h.is_open }
+abbrev pub data_of : Held → SessionData
+data_of h = record { settings = h.settings; line = h.line; saved = saved_in h.slots; is_open = h.is_open }
 
 -- before the first byte of a session of a machine of a board, with these slots
 abbrev pub held_first : Numbers → List Slot → Held
@@ -32,10 +32,10 @@ held_first board slots = record {
 -- after the answer to the line
 abbrev pub held_after_line : Held → State → Held
 held_after_line h s = record {
-  settings = settings_after h.settings (line_asked (kept_of h));
+  settings = settings_after h.settings (line_asked (data_of h));
   line = Some [];
-  slots = slots_after s h.slots (change_of (line_asked (kept_of h)));
-  is_open = not (quits (line_asked (kept_of h)));
+  slots = slots_after s h.slots (change_of (line_asked (data_of h)));
+  is_open = not (quits (line_asked (data_of h)));
 }
 
 abbrev pub held_after : Held → State → ℕ → Held
@@ -44,4 +44,4 @@ held_after h s byte =
 
 -- it makes the pieces of the session
 abbrev pub holding : Conduct Held
-holding = lifted kept_of held_after debugging
+holding = lifted data_of held_after debugging

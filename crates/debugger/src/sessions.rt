@@ -2,7 +2,7 @@
 
 ghost use Rattle.std.specs.Prelude.{◌≡◌, ◌&&◌, [], ◌∷◌, not, OnOk};
 ghost use Rattle.debugger.specs.Answers.{answer, answer_by, change_piece, closing_piece, reply_text};
-ghost use Rattle.debugger.specs.Held.{held_after_line, held_first, holding, kept_of};
+ghost use Rattle.debugger.specs.Held.{held_after_line, held_first, holding, data_of};
 ghost use Rattle.debugger.specs.Sessions.{line_answered, session_of};
 ghost use Rattle.debugger.specs.Slots.{HaveRoom, saved_in, slots_after, slots_by};
 ghost use Rattle.debugger_commands.specs.Commands.{change_of, quits, steps_of, task_steps_of};
@@ -167,7 +167,7 @@ impl<L: Exceptions, U: SysTickState> Debugger<L, U> {
         out: &mut W,
     ) -> Result<(), IoError>
         requires { HaveRoom self.old.slots machine.old.state.bus }
-        ensures delivers { Delivers (line_answered (kept_of self.old) machine.old.state) machine.old machine.new
+        ensures delivers { Delivers (line_answered (data_of self.old) machine.old.state) machine.old machine.new
             (W.writing out.old) (W.writing out.new) result }
         ensures kept { OnOk result (self.new ≡ held_after_line self.old machine.old.state) }
         ensures room { OnOk result (HaveRoom self.new.slots machine.new.state.bus) }

@@ -8,14 +8,14 @@ ghost use Rattle.platform.specs.Text.{line_feed};
 ghost use Rattle.step_laws.specs.SizeLaw.{AreOfOneBoard};
 
 use debugger_commands::{Reply, ok_text};
-use machine::{Decider, Exceptions, Kept, KeptCode, Machine, SysTickState};
+use machine::{Decider, Exceptions, KeptCode, Machine, SavedState, SysTickState};
 use std::alloc::{AllocError, Global};
 use std::marker::Model;
 
 /// Room for a state, and whether one was saved there.
 #[derive(Drop)]
 struct Slot<L: Exceptions, U: SysTickState> {
-    kept: Kept<L, U>,
+    saved: SavedState<L, U>,
     is_saved: bool,
 }
 
@@ -24,7 +24,7 @@ impl<L: Exceptions, U: SysTickState> Model for Slot<L, U> {
 
     ghost Value = { TheSlot };
 
-    ghost view = { λ s. record { state = s.kept; is_saved = s.is_saved } };
+    ghost view = { λ s. record { state = s.saved; is_saved = s.is_saved } };
 }
 
 impl<L: Exceptions, U: SysTickState> Slot<L, U> {
@@ -33,7 +33,7 @@ impl<L: Exceptions, U: SysTickState> Slot<L, U> {
         requires { AreOfOneBoard self.old.state.bus machine.now.state.bus }
         ensures { self.new ≡ record { state = machine.now.state; is_saved = true } }
     {
-        machine.keep(&mut self.kept);
+        machine.save_to(&mut self.saved);
         self.is_saved = true;
     }
 }
@@ -71,7 +71,7 @@ impl<L: Exceptions, U: SysTickState> Slots<L, U> {
         'slots: for number in 0..count {
             let _ = number;
             let slot = Slot {
-                kept: machine.copied(alloc)?,
+                saved: machine.save(alloc)?,
                 is_saved: false,
             };
             slots.push(slot)?;
@@ -98,12 +98,12 @@ impl<L: Exceptions, U: SysTickState> Slots<L, U> {
     }
 
     /// Returns the state that was saved in a slot, if one was.
-    fn saved(&self, slot: u8) -> Option<&Kept<L, U>>
-        ensures { option_map (λ kept. kept.now) result ≡ slice_index_or (saved_in self.now) slot None }
+    fn saved(&self, slot: u8) -> Option<&SavedState<L, U>>
+        ensures { option_map (λ saved. saved.now) result ≡ slice_index_or (saved_in self.now) slot None }
     {
         let slot = self.slots.get(slot as usize)?;
         if slot.is_saved {
-            Some(&slot.kept)
+            Some(&slot.saved)
         } else {
             None
         }
@@ -123,8 +123,8 @@ impl<L: Exceptions, U: SysTickState> Slots<L, U> {
         } }
     {
         match self.saved(slot) {
-            Some(kept) => {
-                machine.take_back(kept);
+            Some(saved) => {
+                machine.restore(saved);
                 ok_text()
             }
             None => not_saved_text(),

@@ -137,7 +137,10 @@ fn put_bytes<D: Decider, C: KeptCode, L: Exceptions, U: SysTickState>(
     ensures short { length page.new ≤ 777 }
 {
     'offsets: for offset in 0..count {
-        put_byte(page, machine.shown(byte_address(address, offset)));
+        put_byte(
+            page,
+            machine.peek_memory_or_device(byte_address(address, offset)),
+        );
     }
 }
 

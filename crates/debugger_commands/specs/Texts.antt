@@ -7,9 +7,9 @@ use Rattle.debugger_commands.specs.declared.help.TheConstants.{HELP}
 use Rattle.instruction_set.specs.Words.{word_sum}
 use Rattle.platform.specs.declared.access.Decision.{Decision}
 use Rattle.platform.specs.declared.stop.Stop.{Stop}
-use Rattle.reference.specs.Shown.{byte_shown}
+use Rattle.reference.specs.Peek.{peek_memory_or_device}
 use Rattle.reference.specs.State.{Bus}
-use Rattle.platform.specs.Regions.{Mpu, shown}
+use Rattle.platform.specs.Regions.{Mpu, region_registers}
 use Rattle.platform.specs.Text.{hex_byte, hex_word, line_feed, rule_text, stop_line}
 
 -- ---- regs: a line for each register
@@ -39,7 +39,7 @@ byte_text (Some byte) = codes " " ++ hex_byte byte
 -- the first n bytes from an address on, which wraps at 2^32
 unfoldable pub bytes_text : Bus → ℕ → ℕ → List ℕ
 bytes_text b a zero = []
-bytes_text b a (suc n) = bytes_text b a n ++ byte_text (byte_shown b (word_sum a n))
+bytes_text b a (suc n) = bytes_text b a n ++ byte_text (peek_memory_or_device b (word_sum a n))
 
 abbrev pub memory_text : Bus → ℕ → ℕ → List ℕ
 memory_text b a n = ((hex_word a ++ codes ":") ++ bytes_text b a n) ++ line_feed
@@ -58,7 +58,7 @@ region_line k (Some words) = words_line k words.0 words.1
 
 unfoldable pub region_lines : Mpu → ℕ → List ℕ
 region_lines m zero = []
-region_lines m (suc k) = region_lines m k ++ region_line k (shown m k)
+region_lines m (suc k) = region_lines m k ++ region_line k (region_registers m k)
 
 -- ---- explain: the rule that would decide, and whether it would grant the access
 

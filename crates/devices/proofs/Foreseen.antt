@@ -10,7 +10,7 @@ use Rattle.devices.specs.declared.device.Poke.{Poke}
 use Rattle.devices.specs.Devices.{DeviceWords, Word, at_start, fresh, poked, position_from, with_content, word_at}
 use Rattle.devices.specs.Laws.{AreWhole, LastPokeDecides, given}
 use Rattle.devices.specs.Apart.{are_apart}
-use Rattle.devices.specs.Lines.{are_lined, levels_by}
+use Rattle.devices.specs.Lines.{has_lines, levels_by}
 use Rattle.devices.specs.Pokes.{last_poke, poked_all}
 use Rattle.devices.specs.Table.{has, place}
 use Rattle.devices.specs.Words.{stored_for}
@@ -144,7 +144,8 @@ abbrev later : Option ℕ → Option ℕ → Option ℕ
 later None before = before
 later (Some content) before = Some content
 
-given_twice : (ticks : ℕ) (x o : Option ℕ) (w : Option Word) → given ticks x (given ticks o w) ≡ given ticks (later x o) w
+given_twice : (ticks : ℕ) (x o : Option ℕ) (w : Option Word) → given ticks x (given ticks o w)
+    ≡ given ticks (later x o) w
 given_twice ticks None o w = refl
 given_twice ticks (Some v) None w = refl
 given_twice ticks (Some v) (Some u) None = refl
@@ -204,7 +205,7 @@ made_whole made n table e =
 
 -- devices that are as many as there may be, whole, and with lines as said
 abbrev Fit : Bool → Bool → List DeviceWords → Type 0
-Fit lined apart ds = (length ds ≤ 256) × AreWhole ds × (lined ≡ are_lined ds) × (apart ≡ are_apart ds)
+Fit lined apart ds = (length ds ≤ 256) × AreWhole ds × (lined ≡ has_lines ds) × (apart ≡ are_apart ds)
 
 -- one device took a content
 pub put_fits : (lined apart : Bool) (ds : List DeviceWords) (ticks a v j : ℕ) (d x : DeviceWords) →

@@ -4,46 +4,46 @@ use Rattle.std.proofs.Common.{slice_set, slice_index, slice_index_or}
 use Rattle.std.proofs.Common.{Some, None, is_some, refl, sym, ◌∙◌, ap, arith, subst}
 use Rattle.std.proofs.lemmas.Bool.{or_parts}
 use Rattle.devices.specs.Devices.{DeviceWords, Word, poked, position_from, with_content, word_at}
-use Rattle.devices.specs.Laws.{have}
+use Rattle.devices.specs.Laws.{has_device_at}
 use Rattle.devices.specs.Table.{has, place}
 
 -- a number is found where a device has the address
-position_found : (k : ℕ) (ds : List DeviceWords) (a : ℕ) → is_some (position_from k ds a) ≡ have ds a
+position_found : (k : ℕ) (ds : List DeviceWords) (a : ℕ) → is_some (position_from k ds a) ≡ has_device_at ds a
 position_found k [] a = refl
 position_found k (d ∷ ds) a = by_has (has d.device a) (position_found (suc k) ds a)
   where
-    by_has : (b : Bool) → is_some (position_from (suc k) ds a) ≡ have ds a →
-        is_some (if b then Some k else position_from (suc k) ds a) ≡ (b || have ds a)
+    by_has : (b : Bool) → is_some (position_from (suc k) ds a) ≡ has_device_at ds a →
+        is_some (if b then Some k else position_from (suc k) ds a) ≡ (b || has_device_at ds a)
     by_has true rest = refl
     by_has false rest = rest
 
-pub some_position : (ds : List DeviceWords) (a : ℕ) → is_some (position_from 0 ds a) ≡ have ds a
+pub some_position : (ds : List DeviceWords) (a : ℕ) → is_some (position_from 0 ds a) ≡ has_device_at ds a
 some_position ds a = position_found 0 ds a
 
-pub none_have : (ds : List DeviceWords) (a : ℕ) → position_from 0 ds a ≡ None → have ds a ≡ false
+pub none_have : (ds : List DeviceWords) (a : ℕ) → position_from 0 ds a ≡ None → has_device_at ds a ≡ false
 none_have ds a e = sym (some_position ds a) ∙ ap is_some e
 
-pub first_has : (ds : List DeviceWords) (a j : ℕ) → position_from 0 ds a ≡ Some j → have ds a ≡ true
+pub first_has : (ds : List DeviceWords) (a j : ℕ) → position_from 0 ds a ≡ Some j → has_device_at ds a ≡ true
 first_has ds a j e = sym (some_position ds a) ∙ ap is_some e
 
 -- where there is none, nothing is poked
 pub none_poked : (ds : List DeviceWords) (ticks a v : ℕ) → position_from 0 ds a ≡ None → poked ds ticks a v ≡ ds
 none_poked ds ticks a v e = stays ds (none_have ds a e)
   where
-    stays : (ds : List DeviceWords) → have ds a ≡ false → poked ds ticks a v ≡ ds
+    stays : (ds : List DeviceWords) → has_device_at ds a ≡ false → poked ds ticks a v ≡ ds
     stays [] none = refl
     stays (d ∷ ds) none =
-        let (here, rest) = or_parts (has d.device a) (have ds a) none in
+        let (here, rest) = or_parts (has d.device a) (has_device_at ds a) none in
         rw here (ap (λ tail. d ∷ tail) (stays ds rest))
 
 -- and there is no word
 pub none_word : (ds : List DeviceWords) (a : ℕ) → position_from 0 ds a ≡ None → word_at ds a ≡ None
 none_word ds a e = none_there ds (none_have ds a e)
   where
-    none_there : (ds : List DeviceWords) → have ds a ≡ false → word_at ds a ≡ None
+    none_there : (ds : List DeviceWords) → has_device_at ds a ≡ false → word_at ds a ≡ None
     none_there [] none = refl
     none_there (d ∷ ds) none =
-        let (here, rest) = or_parts (has d.device a) (have ds a) none in
+        let (here, rest) = or_parts (has d.device a) (has_device_at ds a) none in
         rw here (none_there ds rest)
 
 -- the word at an address in a device

@@ -4,7 +4,7 @@ use Rattle.devices.specs.declared.device.Device.{Device}
 use Rattle.devices.specs.Apart.{are_apart, is_apart_from}
 use Rattle.devices.specs.Copies.{HaveSameDevices}
 use Rattle.devices.specs.Devices.{DeviceWords, poked}
-use Rattle.devices.specs.Lines.{are_lined, levels_by}
+use Rattle.devices.specs.Lines.{has_lines, levels_by}
 use Rattle.devices.proofs.Copying.{same_after_poke}
 
 same_self : (ds : List DeviceWords) → HaveSameDevices ds ds
@@ -14,7 +14,7 @@ same_self (d ∷ ds) = (refl, same_self ds)
 pub same_poked : (ds : List DeviceWords) (ticks a v : ℕ) → HaveSameDevices (poked ds ticks a v) ds
 same_poked ds ticks a v = same_after_poke ds ds ticks a v (same_self ds)
 
-pub same_lined : (ds es : List DeviceWords) → HaveSameDevices ds es → are_lined ds ≡ are_lined es
+pub same_lined : (ds es : List DeviceWords) → HaveSameDevices ds es → has_lines ds ≡ has_lines es
 same_lined [] [] s = refl
 same_lined (d ∷ ds) (e ∷ es) s = rw (s.0, same_lined ds es s.1) refl
 same_lined [] (e ∷ es) s = absurd s

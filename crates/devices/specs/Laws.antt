@@ -12,9 +12,9 @@ AreWhole [] = Unit {0}
 AreWhole (d ∷ ds) = (length d.words * 4 ≡ d.device.size) × AreWhole ds
 
 -- a device has the address
-abbrev pub have : List DeviceWords → ℕ → Bool
-have [] a = false
-have (d ∷ ds) a = has d.device a || have ds a
+abbrev pub has_device_at : List DeviceWords → ℕ → Bool
+has_device_at [] a = false
+has_device_at (d ∷ ds) a = has d.device a || has_device_at ds a
 
 -- a word that was given a content, if it was given one
 abbrev pub given : ℕ → Option ℕ → Option Word → Option Word

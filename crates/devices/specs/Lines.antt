@@ -1,6 +1,7 @@
 -- The lines of devices (profile): one is high while a bit is 1 both in its device's first word and in the word that
 -- enables it.
-use Rattle.std.specs.Prelude.{ℕ, Bool, true, false, not, ◌||◌, ◌==◌, bit_and, List, [], ◌∷◌, ◌++◌, Option, Some, None, unwrap_or}
+use Rattle.std.specs.Prelude.{ℕ, Bool, true, false, not, ◌||◌, ◌==◌, bit_and, List, [], ◌∷◌, ◌++◌, Option, Some, None}
+use Rattle.std.specs.Prelude.{unwrap_or}
 use Rattle.devices.specs.declared.device.Device.{Device}
 use Rattle.devices.specs.declared.device.Line.{Line}
 use Rattle.devices.specs.declared.level.Level.{Level}
@@ -11,9 +12,9 @@ has_line None = false
 has_line (Some line) = true
 
 -- whether one of some devices has a line
-abbrev pub are_lined : List DeviceWords → Bool
-are_lined [] = false
-are_lined (d ∷ ds) = has_line d.device.line || are_lined ds
+abbrev pub has_lines : List DeviceWords → Bool
+has_lines [] = false
+has_lines (d ∷ ds) = has_line d.device.line || has_lines ds
 
 -- whether a line is that of an interrupt
 abbrev pub is_line_of : Option Line → ℕ → Bool

@@ -1,14 +1,14 @@
 //! The words of a board's devices (profile).
 
 ghost use Rattle.std.specs.Prelude.{◌≡◌, ◌<◌, ◌≤◌, ◌^◌, ◌==◌, ℕ, Some, [], length, option_map, slice_index};
-ghost use Rattle.std.specs.Prelude.{not, true, false, IfOk, IfSome};
+ghost use Rattle.std.specs.Prelude.{true, false, IfOk, IfSome};
 ghost use Rattle.instruction_set.specs.Sizes.{bytes_in};
 ghost use Rattle.devices.specs.Table.{has, place};
 ghost use Rattle.devices.specs.Copies.{HaveSameDevices};
 ghost use Rattle.devices.specs.Devices.{after_store_at, at_start, content_at, fresh, loaded, poked, poked_by};
 ghost use Rattle.devices.specs.Devices.{position_from, read_at, sent_at, value_at, with_content, word_at};
-ghost use Rattle.devices.specs.Lines.{are_lined, levels};
-ghost use Rattle.devices.specs.Laws.{have};
+ghost use Rattle.devices.specs.Lines.{has_lines, levels};
+ghost use Rattle.devices.specs.Laws.{has_device_at};
 ghost use Rattle.devices.specs.Pokes.{poked_all};
 
 use crate::apart::are_apart;
@@ -57,7 +57,7 @@ impl Model for Devices {
     ghost use Rattle.std.specs.Prelude.{List, ◌≡◌, ◌≤◌, length};
     ghost use Rattle.devices.specs.Devices.{DeviceWords as State};
     ghost use Rattle.devices.specs.Laws.{AreWhole};
-    ghost use Rattle.devices.specs.Lines.{are_lined};
+    ghost use Rattle.devices.specs.Lines.{has_lines};
     ghost use Rattle.devices.specs.Apart.{are_apart};
 
     ghost Value = { List State };
@@ -65,7 +65,7 @@ impl Model for Devices {
     ghost view = { λ d. d.devices.items };
 
     ghost invariant = { λ d. (length d.devices.items ≤ 256) × AreWhole d.devices.items
-        × (d.lined ≡ are_lined d.devices.items) × (d.apart ≡ are_apart d.devices.items) };
+        × (d.lined ≡ has_lines d.devices.items) × (d.apart ≡ are_apart d.devices.items) };
 }
 
 impl Devices {
@@ -82,7 +82,7 @@ impl Devices {
         'devices: for device in table {
             devices.push(DeviceWords::at_start(alloc, device)?)?;
         }
-        let lined = are_lined(devices.as_slice());
+        let lined = has_lines(devices.as_slice());
         let apart = are_apart(devices.as_slice());
         Ok(Devices {
             devices,
@@ -126,19 +126,19 @@ impl Devices {
         self.devices.as_slice()
     }
 
-    /// Returns whether there is a device.
+    /// Returns whether there is no device.
     #[inline]
-    pub fn are_any(&self) -> bool
-        ensures { result ≡ not (length self.now == 0) }
+    pub fn is_empty(&self) -> bool
+        ensures { result ≡ (length self.now == 0) }
     {
-        !self.devices.is_empty()
+        self.devices.is_empty()
     }
 
     /// Returns whether a device has a line. Where none has, there are no levels.
     #[inline]
     #[tactic(auto, using(crate::proofs::Lined::none_lined))]
-    pub fn are_lined(&self) -> bool
-        ensures value { result ≡ are_lined self.now }
+    pub fn has_lines(&self) -> bool
+        ensures value { result ≡ has_lines self.now }
         ensures none { (ticks : ℕ) → result ≡ false → levels self.now ticks ≡ [] }
     {
         self.lined
@@ -146,8 +146,8 @@ impl Devices {
 
     /// Returns whether a device has an address.
     #[tactic(auto, using(crate::proofs::Positions::some_position))]
-    pub fn have(&self, address: u32) -> bool
-        ensures { result ≡ have self.now address }
+    pub fn has_device_at(&self, address: u32) -> bool
+        ensures { result ≡ has_device_at self.now address }
     {
         self.position(address).is_some()
     }
@@ -387,8 +387,8 @@ fn place_near(address: u32) -> usize
 }
 
 /// Returns whether one of some devices has a line.
-fn are_lined(devices: &[DeviceWords]) -> bool
-    ensures { result ≡ are_lined devices.now }
+fn has_lines(devices: &[DeviceWords]) -> bool
+    ensures { result ≡ has_lines devices.now }
 {
     'devices: for device in devices {
         if device.device.line.is_some() {

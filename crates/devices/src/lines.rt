@@ -13,7 +13,7 @@ use arrayvec::ArrayVec;
 
 impl Devices {
     /// Returns whether a device drives an interrupt.
-    pub fn drive(&self, interrupt: u8) -> bool
+    pub fn drives(&self, interrupt: u8) -> bool
         ensures { result ≡ drives self.now interrupt }
     {
         'devices: for device in self.devices() {

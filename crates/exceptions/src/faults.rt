@@ -3,7 +3,8 @@
 ghost use Rattle.std.specs.Prelude.{◌≡◌, ◌<◌, ◌++◌, ◌∷◌, [], length};
 ghost use Rattle.exceptions.specs.Performing.{ContinuesWith};
 ghost use Rattle.reference.specs.Faults as spec;
-ghost use Rattle.reference.specs.Faults.{access_fault, recorded, pended_by_fault, forced, locked_up, escalated};
+ghost use Rattle.reference.specs.Faults.{access_fault, recorded, pended_by_fault, escalated_to_hard_fault, locked_up};
+ghost use Rattle.reference.specs.Faults.{escalated};
 ghost use Rattle.reference.specs.Faults.{faulted, failed, supervisor_called};
 
 use crate::state::Core;
@@ -142,9 +143,9 @@ impl<D: Decider, C: KeptCode, L: Exceptions, U: SysTickState> Core<D, C, L, U> {
     }
 
     /// Makes HardFault pending in place of a fault that can't be taken.
-    fn force<S: Sink>(&mut self, events: &mut S)
+    fn escalate_to_hard_fault<S: Sink>(&mut self, events: &mut S)
         requires { length (S.emitted events.old).events < MAX_EVENTS }
-        ensures { ContinuesWith S.emitted events.old events.new self.new (forced self.old) }
+        ensures { ContinuesWith S.emitted events.old events.new self.new (escalated_to_hard_fault self.old) }
     {
         self.bus.system.set_fault_bits(0, FORCED);
         self.pend_by_fault(events, HARD_FAULT);
@@ -169,7 +170,7 @@ impl<D: Decider, C: KeptCode, L: Exceptions, U: SysTickState> Core<D, C, L, U> {
         self.record(fault);
         match self.escalation(fault.exception) {
             Escalation::Itself => self.pend_by_fault(events, fault.exception),
-            Escalation::HardFault => self.force(events),
+            Escalation::HardFault => self.escalate_to_hard_fault(events),
             Escalation::Lockup => self.lock_up(events),
         }
     }
@@ -200,7 +201,7 @@ impl<D: Decider, C: KeptCode, L: Exceptions, U: SysTickState> Core<D, C, L, U> {
                 self.regs.advance_pc(SVC_LENGTH);
                 self.bus.system.pend(SV_CALL);
             }
-            Escalation::HardFault => self.force(events),
+            Escalation::HardFault => self.escalate_to_hard_fault(events),
             Escalation::Lockup => self.lock_up(events),
         }
     }

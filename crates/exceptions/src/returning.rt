@@ -6,7 +6,7 @@ ghost use Rattle.exceptions.specs.Performing.{ContinuesWith};
 ghost use Rattle.reference.specs.declared.failure.Failure.TheVariants.{Usage};
 ghost use Rattle.reference.specs.declared.failure.UsageFault.TheVariants.{InvalidReturn};
 ghost use Rattle.reference.specs.ExceptionReturn as spec;
-ghost use Rattle.reference.specs.ExceptionReturn.{with_entry, chained};
+ghost use Rattle.reference.specs.ExceptionReturn.{with_entry, tail_chained};
 ghost use Rattle.platform.specs.System.{exception_ended};
 ghost use Rattle.reference.specs.ExceptionReturn.{pop_stack, unstacked, exception_return};
 ghost use Rattle.reference.specs.Faults.{failed};
@@ -99,7 +99,7 @@ impl<D: Decider, C: KeptCode, L: Exceptions, U: SysTickState> Core<D, C, L, U> {
         let is_allowed = self.is_allowed(exc_return);
         self.end_exception();
         if is_allowed {
-            self.chain(events, exc_return);
+            self.tail_chain(events, exc_return);
         } else {
             self.refuse_return(events, exc_return);
         }
@@ -132,10 +132,10 @@ impl<D: Decider, C: KeptCode, L: Exceptions, U: SysTickState> Core<D, C, L, U> {
     }
 
     /// Begins the entry of the next exception, if there is one, or pops the frame.
-    fn chain<S: Sink>(&mut self, events: &mut S, exc_return: u32)
+    fn tail_chain<S: Sink>(&mut self, events: &mut S, exc_return: u32)
         requires { length (S.emitted events.old).events + 9 ≤ MAX_EVENTS }
         ensures { ContinuesWith S.emitted events.old events.new self.new
-            (λ es. chained self.old es exc_return (candidate self.old.bus.system.nvic)) }
+            (λ es. tail_chained self.old es exc_return (candidate self.old.bus.system.nvic)) }
     {
         if self.candidate().is_some() {
             self.entry = Some(exc_return);

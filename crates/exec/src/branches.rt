@@ -4,7 +4,7 @@ ghost use Rattle.std.specs.Prelude.{◌≡◌, []};
 ghost use Rattle.exec.specs.Plans.{finished_as, planned};
 ghost use Rattle.reference.specs.Branches.{branch_requests, branch_effect, conditional_branch, with_link};
 ghost use Rattle.reference.specs.Branches.{branch_exchange, takes_branch, compare_and_branch, entry_address};
-ghost use Rattle.reference.specs.Branches.{table_branch, begun, if_then};
+ghost use Rattle.reference.specs.Branches.{table_branch, it_state_of, if_then};
 ghost use Rattle.reference.specs.ProgramCounter.{branches_by};
 
 use crate::load_store::{joined, transfer};
@@ -167,8 +167,8 @@ fn table_branch(regs: &mut Regs, halfwords: u32) -> Ending
 
 /// Returns ITSTATE of an IT block that begins.
 #[inline]
-fn begun(operands: &IfThen) -> u8
-    ensures { result ≡ begun operands.now }
+fn it_state_of(operands: &IfThen) -> u8
+    ensures { result ≡ it_state_of operands.now }
 {
     operands.condition % 16 * 16 + operands.mask % 16
 }
@@ -178,7 +178,7 @@ fn begun(operands: &IfThen) -> u8
 fn if_then(regs: &mut Regs, length: InstructionLength, operands: &IfThen) -> Ending
     ensures { finished_as regs.new result ≡ if_then length operands.now regs.old }
 {
-    regs.set_it_state(begun(operands));
+    regs.set_it_state(it_state_of(operands));
     regs.advance_pc(length.bytes());
     Ending::Next
 }

@@ -1,7 +1,7 @@
-mod BytesSeen
+mod ReadableBytes
 pub mod Showing
 mod Slicing
-mod Telling
+mod NeededLines
 mod Turning
 mod Searching
 mod Returning

@@ -6,14 +6,14 @@ use Rattle.std.proofs.lemmas.List.{append-nil}
 use Rattle.gdb.specs.declared.returns.Return.{Return}
 use Rattle.gdb.specs.declared.returns.Return.TheVariants.{Asks, Ends}
 use Rattle.gdb.specs.declared.returns.Search.{Search}
-use Rattle.gdb.specs.declared.searches.Quest.{Quest}
-use Rattle.gdb.specs.declared.searches.Spot.{Spot}
+use Rattle.gdb.specs.declared.searches.SearchScope.{SearchScope}
+use Rattle.gdb.specs.declared.searches.ReverseTarget.{ReverseTarget}
 use Rattle.gdb.specs.declared.slices.Points.{Points}
 use Rattle.gdb.specs.Consoles.{console_from}
 use Rattle.gdb.specs.Returns.{Returned, Returns, asked_at, flow_at, low_of, return, returned_at, returned_to}
 use Rattle.gdb.specs.Searches.{Place, place_back, place_of}
 use Rattle.gdb.specs.Slices.{Progress}
-use Rattle.gdb.specs.Turns.{ended, question, said, stop_packet}
+use Rattle.gdb.specs.Turns.{ended, poll_packet, said, stop_packet}
 use Rattle.gdb_past.proofs.Following.{after_more, after_none}
 use Rattle.gdb_past.specs.Places.{Past}
 use Rattle.gdb_texts.specs.declared.features.Features.{Features}
@@ -76,8 +76,8 @@ interrupted_here : (k : Settings) (points : Points) (features : Features) (past 
     → return k points features past search s ≡ returned_at k points features past Interrupted [] s
 interrupted_here k points features past search s e =
     ap (λ (b : Bool). if b then returned_at k points features past Interrupted [] s
-    else returned_to k points features past search.quest (low_of features search.quest.end) s
-    (place_back search.quest points k (low_of features search.quest.end) s past.marks)) e
+    else returned_to k points features past search.scope (low_of features search.scope.end) s
+    (place_back search.scope points k (low_of features search.scope.end) s past.marks)) e
 
 -- the machine is where it was
 pub interrupted_returns : {E : Type 0} (k : Settings) (points : Points) (features : Features) (past : Past)
@@ -97,21 +97,21 @@ interrupted_returns {E} k points features past search m events a b sent result e
 
 goes_to : (k : Settings) (points : Points) (features : Features) (past : Past) (search : Search)
     (s : State) (o : Option Place) → search.is_interrupted ≡ false
-    → o ≡ place_back search.quest points k (low_of features search.quest.end) s past.marks
+    → o ≡ place_back search.scope points k (low_of features search.scope.end) s past.marks
     → return k points features past search s
-    ≡ returned_to k points features past search.quest (low_of features search.quest.end) s o
+    ≡ returned_to k points features past search.scope (low_of features search.scope.end) s o
 goes_to k points features past search s o e is =
     ap (λ (b : Bool). if b then returned_at k points features past Interrupted [] s
-    else returned_to k points features past search.quest (low_of features search.quest.end) s
-    (place_back search.quest points k (low_of features search.quest.end) s past.marks)) e
-    ∙ ap (λ (p : Option Place). returned_to k points features past search.quest (low_of features search.quest.end) s p)
+    else returned_to k points features past search.scope (low_of features search.scope.end) s
+    (place_back search.scope points k (low_of features search.scope.end) s past.marks)) e
+    ∙ ap (λ (p : Option Place). returned_to k points features past search.scope (low_of features search.scope.end) s p)
     (sym is)
 
 -- the machine is at a place
 pub found_returns : {E : Type 0} (k : Settings) (points : Points) (features : Features) (past left : Past)
     (search : Search) (s : State) (place : Place) (old new : MachineModel) (events : List Event) (a b : Writing)
     (sent : List ℕ) (result : Result Return E) → search.is_interrupted ≡ false
-    → Some place ≡ place_back search.quest points k (low_of features search.quest.end) s past.marks
+    → Some place ≡ place_back search.scope points k (low_of features search.scope.end) s past.marks
     → new.state ≡ place.state → events ≡ place.events → left ≡ record past { marks = place.marks }
     → new.broken ≡ old.broken
     → Delivers (ended k points.watchpoints features place.reason events (flow_at new.state)).pieces new new a b result
@@ -139,59 +139,59 @@ found_returns {E} k points features past left search s place old new events a b 
 pub asking_returns : {E : Type 0} (k : Settings) (points : Points) (features : Features) (past : Past)
     (search : Search) (s there : State) (low : ℕ) (old mid new : MachineModel) (a b : Writing) (sent : List ℕ)
     (result : Result Return E) → search.is_interrupted ≡ false
-    → ◌≡◌ {A = Option Place} None (place_back search.quest points k (low_of features search.quest.end) s past.marks)
-    → low ≡ low_of features search.quest.end → there ≡ s → mid.broken ≡ old.broken
-    → Delivers (said (flow_at there) question ∷ []) mid new a b result
+    → ◌≡◌ {A = Option Place} None (place_back search.scope points k (low_of features search.scope.end) s past.marks)
+    → low ≡ low_of features search.scope.end → there ≡ s → mid.broken ≡ old.broken
+    → Delivers (said (flow_at there) poll_packet ∷ []) mid new a b result
     → IfOk result (λ ends. ends ≡ Asks (record {
-      quest = record search.quest { end = low; continues = true };
+      scope = record search.scope { end = low; continues = true };
       is_interrupted = false;
     }))
-    → OnOk result (sent ≡ question)
+    → OnOk result (sent ≡ poll_packet)
     → Returns (return k points features past search s) old new a b sent past result
 asking_returns {E} k points features past search s there low old mid new a b sent result going none is at kept delivers
     outcome remembered =
     subst (λ (r : Returned). Returns r old new a b sent past result)
     (sym (goes_to k points features past search s None going none))
-    (returns_from (asked_at past search.quest (low_of features search.quest.end) s) old new a b sent past result
-    (from_before (said (flow_at s) question) [] old mid new a b result kept
-    (subst (λ (t : State). Delivers (said (flow_at t) question ∷ []) mid new a b result) at delivers))
+    (returns_from (asked_at past search.scope (low_of features search.scope.end) s) old new a b sent past result
+    (from_before (said (flow_at s) poll_packet) [] old mid new a b result kept
+    (subst (λ (t : State). Delivers (said (flow_at t) poll_packet ∷ []) mid new a b result) at delivers))
     (subst (λ (n : ℕ). IfOk result (λ ends. ends ≡ Asks (record {
-      quest = record search.quest { end = n; continues = true };
+      scope = record search.scope { end = n; continues = true };
       is_interrupted = false;
     }))) is outcome) remembered refl)
 
 -- the question went out from there, or a part of it
 pub asked_all : (s : State) (old new : MachineModel) (a b : Writing) → new ≡ record old { state = s }
-    → WritesAll a b question
-    → DeliversAll (said (flow_at s) question ∷ []) old new a b
-asked_all s old new a b is went = record { went = rw (append-nil question) went.0; stands = is; quiet = went.1 }
+    → WritesAll a b poll_packet
+    → DeliversAll (said (flow_at s) poll_packet ∷ []) old new a b
+asked_all s old new a b is went = record { went = rw (append-nil poll_packet) went.0; stands = is; quiet = went.1 }
 
 pub asked_part : (s : State) (old new : MachineModel) (a b : Writing) → new ≡ record old { state = s }
-    → IsCutShort a.written b.written question → b.errors ≡ a.errors + 1
-    → DeliversPart (said (flow_at s) question ∷ []) old new a b
-asked_part s old new a b is cut failed = one_cut (said (flow_at s) question) old new a b cut is failed
+    → IsCutShort a.written b.written poll_packet → b.errors ≡ a.errors + 1
+    → DeliversPart (said (flow_at s) poll_packet ∷ []) old new a b
+asked_part s old new a b is cut failed = one_cut (said (flow_at s) poll_packet) old new a b cut is failed
 
 -- ---- the place of a search
 
-pub spot_found : (q : Quest) (points : Points) (k : Settings) (low least : ℕ) (s : State) (marks : List State)
-    (o : Option Spot) (spot : Spot)
-    → option_map (λ (x : Spot). place_of (drop x.number marks) (slice_index_or marks x.number s) x.found) o
-    ≡ place_back q points k low s marks → o ≡ Some spot → low ≡ least
-    → Some (place_of (drop spot.number marks) (slice_index_or marks spot.number s) spot.found)
+pub target_found : (q : SearchScope) (points : Points) (k : Settings) (low least : ℕ) (s : State) (marks : List State)
+    (o : Option ReverseTarget) (target : ReverseTarget)
+    → option_map (λ (x : ReverseTarget). place_of (drop x.number marks) (slice_index_or marks x.number s) x.found) o
+    ≡ place_back q points k low s marks → o ≡ Some target → low ≡ least
+    → Some (place_of (drop target.number marks) (slice_index_or marks target.number s) target.found)
     ≡ place_back q points k least s marks
-spot_found q points k low least s marks o spot found is same =
-    sym (ap (λ (p : Option Spot).
-    option_map (λ (x : Spot). place_of (drop x.number marks) (slice_index_or marks x.number s) x.found) p) is)
+target_found q points k low least s marks o target found is same =
+    sym (ap (λ (p : Option ReverseTarget).
+    option_map (λ (x : ReverseTarget). place_of (drop x.number marks) (slice_index_or marks x.number s) x.found) p) is)
     ∙ (found ∙ ap (λ n. place_back q points k n s marks) same)
 
-pub none_found : (q : Quest) (points : Points) (k : Settings) (low least : ℕ) (s : State) (marks : List State)
-    (o : Option Spot)
-    → option_map (λ (x : Spot). place_of (drop x.number marks) (slice_index_or marks x.number s) x.found) o
+pub none_found : (q : SearchScope) (points : Points) (k : Settings) (low least : ℕ) (s : State) (marks : List State)
+    (o : Option ReverseTarget)
+    → option_map (λ (x : ReverseTarget). place_of (drop x.number marks) (slice_index_or marks x.number s) x.found) o
     ≡ place_back q points k low s marks → o ≡ None → low ≡ least
     → ◌≡◌ {A = Option Place} None (place_back q points k least s marks)
 none_found q points k low least s marks o found is same =
-    sym (ap (λ (p : Option Spot).
-    option_map (λ (x : Spot). place_of (drop x.number marks) (slice_index_or marks x.number s) x.found) p) is)
+    sym (ap (λ (p : Option ReverseTarget).
+    option_map (λ (x : ReverseTarget). place_of (drop x.number marks) (slice_index_or marks x.number s) x.found) p) is)
     ∙ (found ∙ ap (λ n. place_back q points k n s marks) same)
 
 -- ---- the progress of a run backwards has no text

@@ -11,9 +11,9 @@ use Rattle.gdb.specs.Slices.{Flow, Progress, Sliced, Slices, after_pieces, after
 use Rattle.gdb.specs.Slices.{reason_then, slice, step_piece, unless_ended}
 use Rattle.gdb.specs.Turns.{MakesTurn, TakesTurn, Turned, after_slice, asked, asked_or, ended, ended_or, flushed}
 use Rattle.gdb.specs.Turns.{flushing}
-use Rattle.gdb.specs.Turns.{last_slice, question, said, slices, steps_at_once, stop_packet, whys, with_pieces}
+use Rattle.gdb.specs.Turns.{last_slice, poll_packet, said, slices, max_slice_steps, stop_packet, whys, with_pieces}
 use Rattle.gdb.specs.Consoles.{Console, Shown, ShownInPart, console_after, emptied, flush_text, sent_by}
-use Rattle.gdb.specs.Whys.{told_stop, why_text}
+use Rattle.gdb.specs.Whys.{stop_with_line, why_text}
 use Rattle.platform.specs.declared.stop.Stop.{Stop}
 use Rattle.gdb_texts.specs.declared.features.Features.{Features}
 use Rattle.gdb_texts.specs.declared.watchpoints.Watchpoint.{Watchpoint}
@@ -104,8 +104,8 @@ unfolding slices
 none_left p points features n rest f e = rw e refl
 
 pub some_left : (p : Plan) (points : Points) (features : Features) (n m rest : ℕ) (f : Flow) → n ≡ suc m
-    → slices p points features n rest f ≡ after_slice p points.watchpoints features (slice p points steps_at_once f)
-    (slices p points features m rest (flushed (slice p points steps_at_once f).flow))
+    → slices p points features n rest f ≡ after_slice p points.watchpoints features (slice p points max_slice_steps f)
+    (slices p points features m rest (flushed (slice p points max_slice_steps f).flow))
 unfolding slices
 some_left p points features n m rest f e = rw e refl
 
@@ -197,20 +197,20 @@ takes_sent t old new a b sent (Err error) takes = tt
 pub past_slice : (p : Plan) (points : Points) (features : Features) (n m rest : ℕ) (f : Flow) (all : Turned)
     (q : Progress) (o : Option StopReason) (old mid new : MachineModel) (a b c : Writing)
     → Going all (slices p points features n rest f) old mid a b → n ≡ suc m
-    → DeliversAll (slice p points steps_at_once f).pieces mid new b c → Slices (slice p points steps_at_once f) q o
+    → DeliversAll (slice p points max_slice_steps f).pieces mid new b c → Slices (slice p points max_slice_steps f) q o
     → o ≡ None → mid.state ≡ f.state → Going all (with_pieces (flushing (flow q new.state) ∷ [])
     (asked_or features p.how (flushed (flow q new.state))
     (slices p points features m rest (flushed (flow q new.state))))) old new a c
 past_slice p points features n m rest f all q o old mid new a b c so_far some delivers left none at =
-    gone_on all (slices p points features n rest f) _ (slice p points steps_at_once f).pieces old mid new a b c so_far
+    gone_on all (slices p points features n rest f) _ (slice p points max_slice_steps f).pieces old mid new a b c so_far
     (some_left p points features n m rest f some
-    ∙ (gone_past p points.watchpoints features (slice p points steps_at_once f)
-    (slices p points features m rest (flushed (slice p points steps_at_once f).flow)) (sym none ∙ left.0)
-    ∙ ap (λ (u : Flow). with_pieces (slice p points steps_at_once f).pieces (with_pieces (flushing u ∷ [])
+    ∙ (gone_past p points.watchpoints features (slice p points max_slice_steps f)
+    (slices p points features m rest (flushed (slice p points max_slice_steps f).flow)) (sym none ∙ left.0)
+    ∙ ap (λ (u : Flow). with_pieces (slice p points max_slice_steps f).pieces (with_pieces (flushing u ∷ [])
     (asked_or features p.how (flushed u) (slices p points features m rest (flushed u)))))
-    (sym (flow_left (slice p points steps_at_once f) q new.state o left
-    (stands_there f steps_at_once (slice p points steps_at_once f) mid new b c at
-    (slice_leaves p points steps_at_once f) delivers))))) delivers
+    (sym (flow_left (slice p points max_slice_steps f) q new.state o left
+    (stands_there f max_slice_steps (slice p points max_slice_steps f) mid new b c at
+    (slice_leaves p points max_slice_steps f) delivers))))) delivers
 
 -- its text was sent
 pub past_flush : (p : Plan) (points : Points) (features : Features) (m rest : ℕ) (all : Turned)
@@ -239,15 +239,15 @@ pub asks : (features : Features) (p : Plan) (all later : Turned) (q : Progress) 
     (a b c : Writing)
     (sent : List ℕ) (ends : Turn)
     → Going all (asked_or features p.how (flow q new.state) later) old new a b → features.is_gdb ≡ true
-    → WritesAll b c question → ends ≡ (asked p.how (flow q new.state)).outcome → sent ≡ question
+    → WritesAll b c poll_packet → ends ≡ (asked p.how (flow q new.state)).outcome → sent ≡ poll_packet
     → TakesTurn all old new a c sent ends
 asks features p all later q old new a b c sent ends so_far gdb went outcome remembered =
     let is : all ≡ with_pieces so_far.done (asked p.how (flow q new.state)) =
     so_far.whole ∙ ap (λ (t : Turned). with_pieces so_far.done t) (is_asked features p (flow q new.state) later gdb) in
     record {
       delivers = subst (λ (qs : List Piece). DeliversAll qs old new a c) (sym (ap (λ (t : Turned). t.pieces) is))
-          (delivers_on so_far.done (said (flow q new.state) question ∷ []) old new new a b c so_far.delivers
-          (said_all new question b c went));
+          (delivers_on so_far.done (said (flow q new.state) poll_packet ∷ []) old new new a b c so_far.delivers
+          (said_all new poll_packet b c went));
       outcome = outcome ∙ sym (ap (λ (t : Turned). t.outcome) is);
       remembered = remembered ∙ sym (ap (λ (t : Turned). t.sent) is);
     }
@@ -255,13 +255,13 @@ asks features p all later q old new a b c sent ends so_far gdb went outcome reme
 pub asks_cut : (features : Features) (p : Plan) (all later : Turned) (q : Progress) (old new : MachineModel)
     (a b c : Writing)
     → Going all (asked_or features p.how (flow q new.state) later) old new a b → features.is_gdb ≡ true
-    → IsCutShort b.written c.written question → c.errors ≡ b.errors + 1 → DeliversPart all.pieces old new a c
+    → IsCutShort b.written c.written poll_packet → c.errors ≡ b.errors + 1 → DeliversPart all.pieces old new a c
 asks_cut features p all later q old new a b c so_far gdb cut failed =
     let is : all ≡ with_pieces so_far.done (asked p.how (flow q new.state)) =
     so_far.whole ∙ ap (λ (t : Turned). with_pieces so_far.done t) (is_asked features p (flow q new.state) later gdb) in
     subst (λ (qs : List Piece). DeliversPart qs old new a c) (sym (ap (λ (t : Turned). t.pieces) is))
-    (cut_on so_far.done (said (flow q new.state) question ∷ []) old new new a b c so_far.delivers
-    (said_part new question b c cut failed))
+    (cut_on so_far.done (said (flow q new.state) poll_packet ∷ []) old new new a b c so_far.delivers
+    (said_part new poll_packet b c cut failed))
 
 pub asks_none : (features : Features) (p : Plan) (all later : Turned) (f : Flow) (old new : MachineModel)
     (a b : Writing)
@@ -275,20 +275,21 @@ pub whole_end : {E : Type 0} (p : Plan) (points : Points) (features : Features) 
     (a b c d : Writing)
     (sent : List ℕ) (result : Result Turn E)
     → Going all (slices p points features n rest f) old mid a b → n ≡ suc m
-    → DeliversAll (slice p points steps_at_once f).pieces mid new b c → Slices (slice p points steps_at_once f) q o
+    → DeliversAll (slice p points max_slice_steps f).pieces mid new b c → Slices (slice p points max_slice_steps f) q o
     → o ≡ Some r → mid.state ≡ f.state
     → MakesTurn (ended p.settings points.watchpoints features r q.events (flow q new.state)) new new c d sent result
     → MakesTurn all old new a d sent result
 whole_end p points features n m rest f all q o r old mid new a b c d sent result so_far some delivers left is at takes =
     taken all (ended p.settings points.watchpoints features r q.events (flow q new.state)) old new new a c d sent result
-    (gone_on all (slices p points features n rest f) _ (slice p points steps_at_once f).pieces old mid new a b c so_far
+    (gone_on all (slices p points features n rest f) _ (slice p points max_slice_steps f).pieces old mid new a b c
+    so_far
     (some_left p points features n m rest f some
-    ∙ (ended_in p points.watchpoints features (slice p points steps_at_once f)
-    (slices p points features m rest (flushed (slice p points steps_at_once f).flow)) r (sym is ∙ left.0)
-    ∙ ap (λ (t : Turned). with_pieces (slice p points steps_at_once f).pieces t)
-    (sym (end_left p.settings points.watchpoints features r (slice p points steps_at_once f) q new.state o left
-    (stands_there f steps_at_once (slice p points steps_at_once f) mid new b c at
-    (slice_leaves p points steps_at_once f) delivers))))) delivers) takes
+    ∙ (ended_in p points.watchpoints features (slice p points max_slice_steps f)
+    (slices p points features m rest (flushed (slice p points max_slice_steps f).flow)) r (sym is ∙ left.0)
+    ∙ ap (λ (t : Turned). with_pieces (slice p points max_slice_steps f).pieces t)
+    (sym (end_left p.settings points.watchpoints features r (slice p points max_slice_steps f) q new.state o left
+    (stands_there f max_slice_steps (slice p points max_slice_steps f) mid new b c at
+    (slice_leaves p points max_slice_steps f) delivers))))) delivers) takes
 
 -- ---- the last slice
 
@@ -321,7 +322,7 @@ last_cut p w features sliced old mid a b cut =
 
 pub ends_first : (k : Settings) (w : List Watchpoint) (features : Features) (r : StopReason) (q : Progress)
     (m : MachineModel) (a b : Writing)
-    (stop : Option Stop) → stop ≡ told_stop r m.state.stop
+    (stop : Option Stop) → stop ≡ stop_with_line r m.state.stop
     → ShownInPart a b q.console (why_text k w q.events stop q.console.last)
     → DeliversPart (ended k w features r q.events (flow q m.state)).pieces m m a b
 ends_first k w features r q m a b stop is cut =
@@ -330,20 +331,20 @@ ends_first k w features r q m a b stop is cut =
     cut_first _ _ _ m a b (said_part m (sent_by q.console (whys k w r q.events (flow q m.state))) a b shown.0 shown.1)
 
 -- the lines were put
-abbrev pub Told : Settings → List Watchpoint → StopReason → Progress → Progress → MachineModel → Writing → Writing
+abbrev pub PutsWhys : Settings → List Watchpoint → StopReason → Progress → Progress → MachineModel → Writing → Writing
     → Type 0
-Told k w r q next m a b = Shown a b q.console next.console (whys k w r q.events (flow q m.state))
+PutsWhys k w r q next m a b = Shown a b q.console next.console (whys k w r q.events (flow q m.state))
 
-pub told_as : (k : Settings) (w : List Watchpoint) (r : StopReason) (q next : Progress) (m : MachineModel)
+pub puts_whys_as : (k : Settings) (w : List Watchpoint) (r : StopReason) (q next : Progress) (m : MachineModel)
     (a b : Writing) (stop : Option Stop)
-    → stop ≡ told_stop r m.state.stop
-    → Shown a b q.console next.console (why_text k w q.events stop q.console.last) → Told k w r q next m a b
-told_as k w r q next m a b stop is shown =
+    → stop ≡ stop_with_line r m.state.stop
+    → Shown a b q.console next.console (why_text k w q.events stop q.console.last) → PutsWhys k w r q next m a b
+puts_whys_as k w r q next m a b stop is shown =
     subst (λ (o : Option Stop). Shown a b q.console next.console (why_text k w q.events o q.console.last)) is shown
 
 pub ends_second : (k : Settings) (w : List Watchpoint) (features : Features) (r : StopReason) (q next : Progress)
     (m : MachineModel)
-    (a b c : Writing) → Told k w r q next m a b → IsCutShort b.written c.written (flush_text next.console)
+    (a b c : Writing) → PutsWhys k w r q next m a b → IsCutShort b.written c.written (flush_text next.console)
     → c.errors ≡ b.errors + 1 → DeliversPart (ended k w features r q.events (flow q m.state)).pieces m m a c
 ends_second k w features r q next m a b c told cut failed =
     cut_second _ _ _ m a b c (said_all m (sent_by q.console (whys k w r q.events (flow q m.state))) a b told.0)
@@ -352,7 +353,7 @@ ends_second k w features r q next m a b c told cut failed =
 
 pub ends_third : (k : Settings) (w : List Watchpoint) (features : Features) (r : StopReason) (q next : Progress)
     (m : MachineModel)
-    (a b c d : Writing) → Told k w r q next m a b → WritesAll b c (flush_text next.console)
+    (a b c d : Writing) → PutsWhys k w r q next m a b → WritesAll b c (flush_text next.console)
     → IsCutShort c.written d.written (stop_packet features r m.state) → d.errors ≡ c.errors + 1
     → DeliversPart (ended k w features r q.events (flow q m.state)).pieces m m a d
 ends_third k w features r q next m a b c d told went cut failed =
@@ -363,7 +364,7 @@ ends_third k w features r q next m a b c d told went cut failed =
 
 pub ends_all : (k : Settings) (w : List Watchpoint) (features : Features) (r : StopReason) (q next : Progress)
     (m : MachineModel)
-    (a b c d : Writing) → Told k w r q next m a b → WritesAll b c (flush_text next.console)
+    (a b c d : Writing) → PutsWhys k w r q next m a b → WritesAll b c (flush_text next.console)
     → WritesAll c d (stop_packet features r m.state)
     → DeliversAll (ended k w features r q.events (flow q m.state)).pieces m m a d
 ends_all k w features r q next m a b c d told went reply =

@@ -13,7 +13,7 @@ use Rattle.gdb_texts.specs.declared.watchpoints.WatchHit.{WatchHit}
 use Rattle.gdb_texts.specs.declared.watchpoints.Watchpoint.{Watchpoint}
 use Rattle.gdb_texts.specs.Points.{kind_at}
 use Rattle.gdb_texts.specs.Watchpoints.{hit_of}
-use Rattle.machine.specs.Foresight.{is_instruction_next}
+use Rattle.machine.specs.NextStep.{is_instruction_next}
 use Rattle.platform.specs.declared.access.Cause.{Cause}
 use Rattle.platform.specs.declared.access.DecidedAccess.{DecidedAccess}
 use Rattle.platform.specs.declared.event.Event.{Event}

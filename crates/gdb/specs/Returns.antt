@@ -4,13 +4,13 @@ use Rattle.std.specs.Prelude.{Result, Ok, Err}
 use Rattle.gdb.specs.declared.returns.Return.{Return}
 use Rattle.gdb.specs.declared.returns.Return.TheVariants.{Asks, Ends}
 use Rattle.gdb.specs.declared.returns.Search.{Search}
-use Rattle.gdb.specs.declared.searches.Quest.{Quest}
+use Rattle.gdb.specs.declared.searches.SearchScope.{SearchScope}
 use Rattle.gdb.specs.declared.searches.Way.{Way}
 use Rattle.gdb.specs.declared.slices.Points.{Points}
 use Rattle.gdb.specs.Consoles.{console_from}
 use Rattle.gdb.specs.Searches.{Place, place_back}
 use Rattle.gdb.specs.Slices.{Flow}
-use Rattle.gdb.specs.Turns.{ended, question, said, steps_at_once, stop_packet}
+use Rattle.gdb.specs.Turns.{ended, poll_packet, said, max_slice_steps, stop_packet}
 use Rattle.gdb_past.specs.Places.{Past, tick_of}
 use Rattle.gdb_texts.specs.declared.features.Features.{Features}
 use Rattle.gdb_texts.specs.declared.settings.Settings.{Settings}
@@ -36,7 +36,7 @@ pub record Returned : Type 0 where
 -- before the first turn, where the machine is at a tick
 abbrev pub first_search : Way → ℕ → Search
 first_search w now =
-    record { quest = record { way = w; now = now; end = now; continues = false }; is_interrupted = false }
+    record { scope = record { way = w; now = now; end = now; continues = false }; is_interrupted = false }
 
 -- no text has gone out
 abbrev pub flow_at : State → Flow
@@ -53,19 +53,19 @@ returned_at k points features past r events s = record {
 
 -- the tick down to which GDB's search goes before GDB is asked; another client isn't asked
 abbrev pub low_of : Features → ℕ → ℕ
-low_of features end = if features.is_gdb then end - steps_at_once else 0
+low_of features end = if features.is_gdb then end - max_slice_steps else 0
 
 -- GDB is asked, with the machine where it was
-abbrev pub asked_at : Past → Quest → ℕ → State → Returned
+abbrev pub asked_at : Past → SearchScope → ℕ → State → Returned
 asked_at past q low s = record {
-  pieces = said (flow_at s) question ∷ [];
-  outcome = Asks (record { quest = record q { end = low; continues = true }; is_interrupted = false });
-  sent = question;
+  pieces = said (flow_at s) poll_packet ∷ [];
+  outcome = Asks (record { scope = record q { end = low; continues = true }; is_interrupted = false });
+  sent = poll_packet;
   past = past;
 }
 
 -- the machine is at a place of its past, and what was kept from later ones is gone; or GDB is asked
-abbrev pub returned_to : Settings → Points → Features → Past → Quest → ℕ → State → Option Place → Returned
+abbrev pub returned_to : Settings → Points → Features → Past → SearchScope → ℕ → State → Option Place → Returned
 returned_to k points features past q low s None = asked_at past q low s
 returned_to k points features past q low s (Some place) =
     returned_at k points features (record past { marks = place.marks }) place.reason place.events place.state
@@ -74,8 +74,8 @@ returned_to k points features past q low s (Some place) =
 abbrev pub return : Settings → Points → Features → Past → Search → State → Returned
 return k points features past search s =
     if search.is_interrupted then returned_at k points features past Interrupted [] s
-    else returned_to k points features past search.quest (low_of features search.quest.end) s
-    (place_back search.quest points k (low_of features search.quest.end) s past.marks)
+    else returned_to k points features past search.scope (low_of features search.scope.end) s
+    (place_back search.scope points k (low_of features search.scope.end) s past.marks)
 
 -- ---- what a call that took such a turn leaves
 

@@ -1,8 +1,8 @@
 -- Going back in time: where a run backwards ends (GDB manual, "Packets", bs and bc; profile).
 use Rattle.std.specs.Prelude.{ℕ, zero, suc, ◌+◌, ◌-◌, nat_lt, nat_le, Bool, true, false, ◌||◌, ◌&&◌, if◌then◌else◌}
 use Rattle.std.specs.Prelude.{List, [], ◌∷◌, Option, Some, None}
-use Rattle.gdb.specs.declared.searches.Found.{Found}
-use Rattle.gdb.specs.declared.searches.Quest.{Quest}
+use Rattle.gdb.specs.declared.searches.FoundPlace.{FoundPlace}
+use Rattle.gdb.specs.declared.searches.SearchScope.{SearchScope}
 use Rattle.gdb.specs.declared.searches.Way.{Way}
 use Rattle.gdb.specs.declared.searches.Way.TheVariants as way
 use Rattle.gdb.specs.declared.slices.Points.{Points}
@@ -12,7 +12,7 @@ use Rattle.gdb_past.specs.Places.{tick_of}
 use Rattle.gdb_texts.specs.declared.settings.Settings.{Settings}
 use Rattle.gdb_texts.specs.declared.stops.StopReason.{StopReason}
 use Rattle.gdb_texts.specs.declared.stops.StopReason.TheVariants as reason
-use Rattle.machine.specs.Foresight.{is_instruction_next}
+use Rattle.machine.specs.NextStep.{is_instruction_next}
 use Rattle.platform.specs.declared.event.Event.{Event}
 use Rattle.reference.specs.Run.{after}
 use Rattle.reference.specs.State.{State}
@@ -50,32 +50,32 @@ reason_there w points k before continues s =
 
 -- ---- the last place with a reason among those that lie so many steps after a mark
 
-abbrev pub found_if : ℕ → Option StopReason → Option Found → Option Found
+abbrev pub found_if : ℕ → Option StopReason → Option FoundPlace → Option FoundPlace
 found_if steps None earlier = earlier
 found_if steps (Some why) earlier = Some (record { steps = steps; reason = why })
 
 -- after n + 1 steps from a mark
-abbrev pub reason_after_steps : Quest → Points → Settings → State → ℕ → Option StopReason
+abbrev pub reason_after_steps : SearchScope → Points → Settings → State → ℕ → Option StopReason
 reason_after_steps q points k m n =
     reason_there q.way points k (nat_lt (tick_of m + suc n) q.now)
     (q.continues || nat_lt (tick_of m + suc n) q.end) (after n m)
 
 -- the last one among the n places after the first `low` ones
-unfoldable pub last_found : Quest → Points → Settings → State → ℕ → ℕ → Option Found
+unfoldable pub last_found : SearchScope → Points → Settings → State → ℕ → ℕ → Option FoundPlace
 last_found q points k m low zero = None
 last_found q points k m low (suc n) =
     found_if (suc (low + n)) (reason_after_steps q points k m (low + n)) (last_found q points k m low n)
 
 -- the mark itself
-abbrev pub mark_found : Quest → Points → State → Option Found
+abbrev pub mark_found : SearchScope → Points → State → Option FoundPlace
 mark_found q points m = found_if 0 (reason_of_mark q.way points (nat_lt (tick_of m) q.now) m) None
 
-abbrev pub found_or : Option Found → Option Found → Option Found
+abbrev pub found_or : Option FoundPlace → Option FoundPlace → Option FoundPlace
 found_or None earlier = earlier
 found_or (Some found) earlier = Some found
 
--- the places after the tick `low` and up to the quest's end, and the mark where it isn't below that tick
-abbrev pub found_from : Quest → Points → Settings → ℕ → State → Option Found
+-- the places after the tick `low` and up to the search's end, and the mark where it isn't below that tick
+abbrev pub found_from : SearchScope → Points → Settings → ℕ → State → Option FoundPlace
 found_from q points k low m =
     found_or
     (last_found q points k m (low - tick_of m) (q.end - tick_of m - (low - tick_of m)))
@@ -109,7 +109,7 @@ abbrev pub events_for : StopReason → State → ℕ → List Event
 events_for why m zero = []
 events_for why m (suc n) = if is_of_step why then (step (after n m)).events else []
 
-abbrev pub place_of : List State → State → Found → Place
+abbrev pub place_of : List State → State → FoundPlace → Place
 place_of marks m found = record {
   state = after found.steps m;
   reason = found.reason;
@@ -123,17 +123,17 @@ begins m = place_of (m ∷ []) m (record { steps = 0; reason = reason.PastBegins
 
 -- ---- the marks, the last one first
 
--- the quest goes on before a mark
-abbrev pub before_mark : Quest → State → Quest
+-- the search goes on before a mark
+abbrev pub before_mark : SearchScope → State → SearchScope
 before_mark q m = record q { end = tick_of m; continues = false }
 
-abbrev pub place_or : List State → State → Option Found → Option Place → Option Place
+abbrev pub place_or : List State → State → Option FoundPlace → Option Place → Option Place
 place_or marks m None earlier = earlier
 place_or marks m (Some found) earlier = Some (place_of marks m found)
 
 -- the last place with a reason after the tick `low`, or where the past begins; none where only earlier places are left.
--- `oldest` is the mark before these ones in the list. A mark after the quest's end is passed over
-unfoldable pub place_back : Quest → Points → Settings → ℕ → State → List State → Option Place
+-- `oldest` is the mark before these ones in the list. A mark after the search's end is passed over
+unfoldable pub place_back : SearchScope → Points → Settings → ℕ → State → List State → Option Place
 place_back q points k low oldest [] = Some (begins oldest)
 place_back q points k low oldest (m ∷ marks) =
     if nat_lt q.end (tick_of m) then place_back q points k low m marks

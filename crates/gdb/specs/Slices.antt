@@ -6,7 +6,7 @@ use Rattle.gdb.specs.Consoles.{Console, console_after, sent_by}
 use Rattle.gdb.specs.Reasons.{first_hit, is_continue, reason_after, reason_before, selection_of, watch_reason}
 use Rattle.gdb_texts.specs.declared.actions.Resume.{Resume}
 use Rattle.gdb_texts.specs.declared.stops.StopReason.{StopReason}
-use Rattle.machine.specs.Foresight.{is_instruction_next}
+use Rattle.machine.specs.NextStep.{is_instruction_next}
 use Rattle.platform.specs.declared.event.Event.{Event}
 use Rattle.reference.specs.State.{State}
 use Rattle.reference.specs.Step.{step}

@@ -1,7 +1,7 @@
 -- The registers of the target description: their values, and where a value is written (profile).
 use Rattle.std.specs.Prelude.{ℕ, nat_lt, ◌==◌, if◌then◌else◌, List, [], ◌∷◌, slice_index}
 use Rattle.std.specs.Prelude.{Option, Some, None, Result, Err}
-use Rattle.instruction_set.specs.Registers.{Registers, control, sp, weighed, xpsr}
+use Rattle.instruction_set.specs.Registers.{Registers, control, sp, mask_if, xpsr}
 use Rattle.platform.specs.declared.error.PlaceError.{PlaceError}
 use Rattle.platform.specs.declared.error.PlaceError.TheVariants.{NoSuchPlace}
 use Rattle.platform.specs.declared.exception.Masks.{Masks}
@@ -17,7 +17,7 @@ values_in r m =
     ∷ slice_index r.general 4 ∷ slice_index r.general 5 ∷ slice_index r.general 6 ∷ slice_index r.general 7
     ∷ slice_index r.general 8 ∷ slice_index r.general 9 ∷ slice_index r.general 10 ∷ slice_index r.general 11
     ∷ slice_index r.general 12 ∷ sp r ∷ r.lr ∷ r.pc ∷ xpsr r ∷ r.msp ∷ r.psp
-    ∷ weighed m.primask 1 ∷ m.basepri ∷ weighed m.faultmask 1 ∷ control r ∷ []
+    ∷ mask_if m.primask 1 ∷ m.basepri ∷ mask_if m.faultmask 1 ∷ control r ∷ []
 
 abbrev pub target_values : State → List ℕ
 target_values s = values_in s.registers s.bus.system.nvic.masks

@@ -10,7 +10,7 @@ use Rattle.gdb.specs.declared.turns.Turn.TheVariants.{Asks, Ends}
 use Rattle.gdb.specs.Consoles.{console_after, console_from, emptied, flush_text, sent_by}
 use Rattle.gdb.specs.Slices.{Flow, Sliced, slice}
 use Rattle.gdb.specs.Targets.{target_values}
-use Rattle.gdb.specs.Whys.{told_stop, why_text}
+use Rattle.gdb.specs.Whys.{stop_with_line, why_text}
 use Rattle.gdb_packets.specs.Replies.{packet_of}
 use Rattle.gdb_texts.specs.declared.actions.Resume.{Resume}
 use Rattle.gdb_texts.specs.declared.features.Features.{Features}
@@ -52,7 +52,7 @@ flushing f = said f (flush_text f.console)
 
 -- the lines that say why it ended at a step with these events
 abbrev pub whys : Settings → List Watchpoint → StopReason → List Event → Flow → List ℕ
-whys k watchpoints r events f = why_text k watchpoints events (told_stop r f.state.stop) f.console.last
+whys k watchpoints r events f = why_text k watchpoints events (stop_with_line r f.state.stop) f.console.last
 
 abbrev pub after_whys : Settings → List Watchpoint → StopReason → List Event → Flow → Flow
 after_whys k watchpoints r events f = record f { console = console_after f.console (whys k watchpoints r events f) }
@@ -73,21 +73,21 @@ ended k watchpoints features r events f = record {
 -- ---- a question
 
 -- whether GDB's console is a terminal: GDB answers at once, and says whether its user has interrupted
-abbrev pub question : List ℕ
-question = packet_of (codes "Fisatty,0")
+abbrev pub poll_packet : List ℕ
+poll_packet = packet_of (codes "Fisatty,0")
 
 abbrev pub asked : Resume → Flow → Turned
 asked how f = record {
-  pieces = said f question ∷ [];
+  pieces = said f poll_packet ∷ [];
   outcome = Asks (record { how = how; made = f.made; last = f.console.last; is_interrupted = false });
-  sent = question;
+  sent = poll_packet;
 }
 
 -- ---- slice after slice
 
 -- the most steps before GDB is asked, and before the text of another client is sent (profile)
-abbrev pub steps_at_once : ℕ
-steps_at_once = 1000000
+abbrev pub max_slice_steps : ℕ
+max_slice_steps = 1000000
 
 -- the steps that are left of a budget; without one a run has no end but that of the clock
 abbrev pub steps_left : Option ℕ → ℕ → ℕ
@@ -119,13 +119,13 @@ last_slice p watchpoints features sliced =
 unfoldable pub slices : Plan → Points → Features → ℕ → ℕ → Flow → Turned
 slices p points features zero rest f = last_slice p points.watchpoints features (slice p points rest f)
 slices p points features (suc n) rest f =
-    after_slice p points.watchpoints features (slice p points steps_at_once f)
-    (slices p points features n rest (flushed (slice p points steps_at_once f).flow))
+    after_slice p points.watchpoints features (slice p points max_slice_steps f)
+    (slices p points features n rest (flushed (slice p points max_slice_steps f).flow))
 
 -- the slices of `left` steps
 abbrev pub all_slices : Plan → Points → Features → ℕ → Flow → Turned
 all_slices p points features left f =
-    slices p points features (left / steps_at_once) (left % steps_at_once) f
+    slices p points features (left / max_slice_steps) (left % max_slice_steps) f
 
 abbrev pub begun : Run → State → Flow
 begun run s = record { made = run.made; console = console_from run.last; state = s }

@@ -11,34 +11,34 @@ use Rattle.platform.specs.declared.event.EventKind.{EventKind}
 use Rattle.platform.specs.declared.stop.Stop.{Stop}
 use Rattle.platform.specs.Events.{lines}
 use Rattle.platform.specs.Text.{stop_line}
-use Rattle.trace.specs.Selection.{is_refusal, new_line_after, selects}
+use Rattle.trace.specs.Selection.{is_refusal_or_fault, new_line_after, selects}
 
 -- whether the settings stop at an event: a refused access, a fault, or a handler's entry
-abbrev pub stops_at : Settings → EventKind → Bool
-stops_at k what = (k.refused || k.faults) && is_refusal what || k.exceptions && is_entry what
+abbrev pub is_stop_event : Settings → EventKind → Bool
+is_stop_event k what = (k.refused || k.faults) && is_refusal_or_fault what || k.exceptions && is_entry what
 
 -- whether the line of an event is still to be told: it hits a watchpoint, or the settings stop at it, and the selection
 -- hasn't written it, nor will where the step isn't made
-abbrev pub is_told : Settings → List Watchpoint → EventKind → Bool
-is_told k watchpoints what =
-    (is_some (event_hit watchpoints what) || stops_at k what) && not (selects (selection_of k.selection) what)
+abbrev pub needs_line : Settings → List Watchpoint → EventKind → Bool
+needs_line k watchpoints what =
+    (is_some (event_hit watchpoints what) || is_stop_event k what) && not (selects (selection_of k.selection) what)
 
 -- the lines of those events of a step
-abbrev pub told_lines : Settings → List Watchpoint → List Event → List ℕ
-told_lines k watchpoints events = lines (filter (λ e. is_told k watchpoints e.what) events)
+abbrev pub needed_lines : Settings → List Watchpoint → List Event → List ℕ
+needed_lines k watchpoints events = lines (filter (λ e. needs_line k watchpoints e.what) events)
 
 -- the stop that has a line: the machine stopped, now or before, or its clock is at the limit
-abbrev pub told_stop : StopReason → Option Stop → Option Stop
-told_stop (reason.Stopped why) before = Some why
-told_stop reason.StoppedBefore before = before
-told_stop reason.Done before = None
-told_stop (reason.Breakpoint kind) before = None
-told_stop (reason.Watchpoint kind address) before = None
-told_stop reason.PastBegins before = None
-told_stop (reason.Refused cause) before = None
-told_stop reason.Fault before = None
-told_stop reason.Entered before = None
-told_stop reason.Interrupted before = None
+abbrev pub stop_with_line : StopReason → Option Stop → Option Stop
+stop_with_line (reason.Stopped why) before = Some why
+stop_with_line reason.StoppedBefore before = before
+stop_with_line reason.Done before = None
+stop_with_line (reason.Breakpoint kind) before = None
+stop_with_line (reason.Watchpoint kind address) before = None
+stop_with_line reason.PastBegins before = None
+stop_with_line (reason.Refused cause) before = None
+stop_with_line reason.Fault before = None
+stop_with_line reason.Entered before = None
+stop_with_line reason.Interrupted before = None
 
 abbrev pub stop_text : Option Stop → List ℕ
 stop_text None = []
@@ -46,7 +46,7 @@ stop_text (Some why) = stop_line why
 
 -- whether a line follows
 abbrev pub has_line : Settings → List Watchpoint → List Event → Option Stop → Bool
-has_line k watchpoints events stop = list_any (λ e. is_told k watchpoints e.what) events || is_some stop
+has_line k watchpoints events stop = list_any (λ e. needs_line k watchpoints e.what) events || is_some stop
 
 -- the lines begin on a line of their own
 abbrev pub line_begun : Bool → Option ℕ → List ℕ
@@ -54,7 +54,7 @@ line_begun follows last = if follows then new_line_after last else []
 
 abbrev pub lines_of : Settings → List Watchpoint → List Event → Option Stop → Option ℕ → List ℕ
 lines_of k watchpoints events stop last =
-    line_begun (has_line k watchpoints events stop) last ++ (told_lines k watchpoints events ++ stop_text stop)
+    line_begun (has_line k watchpoints events stop) last ++ (needed_lines k watchpoints events ++ stop_text stop)
 
 -- the lines of a step with these events, where this was the last byte of the run's text
 abbrev pub why_text : Settings → List Watchpoint → List Event → Option Stop → Option ℕ → List ℕ

@@ -12,13 +12,13 @@ mod turns;
 mod whys;
 
 pub use console::Console;
-pub use reading::{Content, put_memory};
+pub use reading::{ReplyData, put_memory};
 pub use registers::{place_of, register_values};
 pub use returns::{Return, Search, first_search, go_back};
-pub use searches::{Found, Quest, Spot, Way, place_back};
+pub use searches::{FoundPlace, ReverseTarget, SearchScope, Way, place_back};
 pub use slices::{Plan, Points, Progress, run_slice};
 pub use steps::{
     event_hit, first_cause, first_hit, has_entry, has_fault, is_continue, put_step, reason_after,
     reason_before, selection_of,
 };
-pub use turns::{Run, SentPacket, Terms, Turn, run_turn, send_packet};
+pub use turns::{Run, RunContext, SentPacket, Turn, run_turn, send_packet};

@@ -1,7 +1,7 @@
 //! Memory as the client reads it.
 
 ghost use Rattle.std.specs.Prelude.{◌≡◌, []};
-ghost use Rattle.gdb.specs.MemoryReads.{byte_seen, memory_read};
+ghost use Rattle.gdb.specs.MemoryReads.{readable_byte, memory_read};
 ghost use Rattle.gdb_texts.specs.Bytes.{bytes_text};
 
 use arrayvec::ArrayVec;
@@ -9,20 +9,20 @@ use gdb_texts::put_byte;
 use machine::{Decider, Exceptions, KeptCode, Machine, SysTickState};
 
 /// The data of an answer.
-pub type Content = ArrayVec<u8, 4096>;
+pub type ReplyData = ArrayVec<u8, 4096>;
 
 /// The most bytes of memory in an answer.
 const MAX_READ: u32 = 2048;
 
 /// Returns the byte at an address, which may be beyond the address space.
-fn byte_seen<D: Decider, C: KeptCode, L: Exceptions, U: SysTickState>(
+fn readable_byte<D: Decider, C: KeptCode, L: Exceptions, U: SysTickState>(
     machine: &Machine<D, C, L, U>,
     address: u64,
 ) -> Option<u8>
-    ensures { result ≡ byte_seen machine.now.state address }
+    ensures { result ≡ readable_byte machine.now.state address }
 {
     if address < 0x1_0000_0000 {
-        machine.seen(address as u32)
+        machine.peek_byte(address as u32)
     } else {
         None
     }
@@ -33,13 +33,13 @@ pub fn put_memory<D: Decider, C: KeptCode, L: Exceptions, U: SysTickState>(
     machine: &Machine<D, C, L, U>,
     address: u32,
     count: u32,
-    page: &mut Content,
+    page: &mut ReplyData,
 )
     requires { page.old.items ≡ [] }
     ensures { page.new.items ≡ bytes_text (memory_read machine.now.state address count) }
 {
     'bytes: for index in 0..count.min(MAX_READ) {
-        match byte_seen(machine, u64::from(address) + u64::from(index)) {
+        match readable_byte(machine, u64::from(address) + u64::from(index)) {
             Some(byte) => put_byte(page, byte),
             None => return,
         }

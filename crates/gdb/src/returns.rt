@@ -6,16 +6,16 @@ ghost use Rattle.gdb.specs.declared.returns.Return.TheVariants.{Asks, Ends};
 ghost use Rattle.gdb.specs.Consoles.{console_from};
 ghost use Rattle.gdb.specs.Returns.{Returns, first_search, flow_at, low_of, return};
 ghost use Rattle.gdb.specs.Searches.{events_for, is_of_step};
-ghost use Rattle.gdb.specs.Turns.{ended, question, said, stop_packet};
+ghost use Rattle.gdb.specs.Turns.{ended, poll_packet, said, stop_packet};
 ghost use Rattle.gdb_past.specs.Places.{AreOfOneMachine};
 ghost use Rattle.gdb_texts.specs.Stops.{signal_of};
 ghost use Rattle.reference.specs.Run.{after};
 ghost use Rattle.reference.specs.State.{State};
 ghost use Rattle.serving.specs.Pieces.{Delivers};
 
-use crate::searches::{Found, Quest, Spot, Way, place_back};
+use crate::searches::{FoundPlace, ReverseTarget, SearchScope, Way, place_back};
 use crate::slices::{Plan, Points, Progress};
-use crate::turns::{QUESTION, STEPS_AT_ONCE, SentPacket, Terms, end_run, send_packet};
+use crate::turns::{MAX_SLICE_STEPS, POLL_PACKET, RunContext, SentPacket, end_run, send_packet};
 use gdb_past::{Past, Position, make_steps};
 use gdb_texts::{Features, Resume, Signal, StopReason, signal_of};
 use machine::{Decider, Exceptions, KeptCode, Machine, SysTickState};
@@ -24,7 +24,7 @@ use output::{IoError, Out};
 /// A search between two of its turns: what is searched for, and whether GDB has interrupted it.
 #[derive(Clone, Copy)]
 pub struct Search {
-    pub quest: Quest,
+    pub scope: SearchScope,
     pub is_interrupted: bool,
 }
 
@@ -42,7 +42,7 @@ pub fn first_search(way: Way, now: u64) -> Search
     ensures { result ≡ first_search way now }
 {
     Search {
-        quest: Quest {
+        scope: SearchScope {
             way,
             now,
             end: now,
@@ -57,7 +57,7 @@ fn low_of(features: Features, end: u64) -> u64
     ensures { result ≡ low_of features end }
 {
     if features.is_gdb {
-        end.saturating_sub(STEPS_AT_ONCE)
+        end.saturating_sub(MAX_SLICE_STEPS)
     } else {
         0
     }
@@ -84,7 +84,7 @@ fn is_of_step(reason: StopReason) -> bool
 /// Makes the steps from a mark to a place in the past. `progress` has the events of the last one, where the run
 /// backwards ends for what happened in it.
 fn make_steps_to<D: Decider, C: KeptCode, L: Exceptions, U: SysTickState>(
-    found: Found,
+    found: FoundPlace,
     progress: &mut Progress,
     machine: &mut Machine<D, C, L, U>,
 )
@@ -104,55 +104,56 @@ fn make_steps_to<D: Decider, C: KeptCode, L: Exceptions, U: SysTickState>(
 
 /// Takes the machine to a place in its past, and forgets what was kept from later ones.
 fn arrive<D: Decider, C: KeptCode, L: Exceptions, U: SysTickState>(
-    spot: Spot,
+    target: ReverseTarget,
     past: &mut Past<L, U>,
     progress: &mut Progress,
     machine: &mut Machine<D, C, L, U>,
 )
-    requires number { spot.number < length past.old.marks }
+    requires number { target.number < length past.old.marks }
     requires fits { AreOfOneMachine past.old.start machine.old.state }
     requires events { progress.old.events ≡ [] }
-    ensures past { past.new ≡ record past.old { marks = drop spot.number past.old.marks } }
+    ensures past { past.new ≡ record past.old { marks = drop target.number past.old.marks } }
     ensures events { (s : State) → progress.new ≡ record progress.old {
-      events = events_for spot.found.reason (slice_index_or past.old.marks spot.number s) spot.found.steps;
+      events = events_for target.found.reason (slice_index_or past.old.marks target.number s) target.found.steps;
     } }
     ensures state { (s : State) → machine.new ≡ record machine.old {
-      state = after spot.found.steps (slice_index_or past.old.marks spot.number s);
+      state = after target.found.steps (slice_index_or past.old.marks target.number s);
     } }
     ensures same { AreOfOneMachine past.old.start machine.new.state }
 {
-    past.restore(spot.number, machine);
-    make_steps_to(spot.found, progress, machine);
-    past.forget(spot.number);
+    past.restore(target.number, machine);
+    make_steps_to(target.found, progress, machine);
+    past.forget(target.number);
 }
 
 /// Ends a run backwards: puts the lines that say why, and the stop reply.
 fn end_return<D: Decider, C: KeptCode, L: Exceptions, U: SysTickState, W: Out>(
     reason: StopReason,
-    terms: &Terms,
+    context: &RunContext,
     progress: &mut Progress,
     sent: &mut SentPacket,
     machine: &Machine<D, C, L, U>,
     out: &mut W,
 ) -> Result<Return, IoError>
     requires { progress.old ≡ record { made = 0; console = console_from None; events = progress.old.events } }
-    ensures delivers { Delivers (ended terms.now.settings terms.now.points.now.watchpoints terms.now.features reason
+    ensures delivers { Delivers
+        (ended context.now.settings context.now.points.now.watchpoints context.now.features reason
         progress.old.events (flow_at machine.now.state)).pieces machine.now machine.now (W.writing out.old)
         (W.writing out.new) result }
     ensures outcome { IfOk result (λ ends. ends ≡ Ends (signal_of reason)) }
-    ensures sent { OnOk result (sent.new.items ≡ stop_packet terms.now.features reason machine.now.state) }
+    ensures sent { OnOk result (sent.new.items ≡ stop_packet context.now.features reason machine.now.state) }
 {
     let plan = Plan {
         how: Resume::Continue,
-        limit: terms.limit,
-        settings: terms.settings,
+        limit: context.limit,
+        settings: context.settings,
     };
-    let watchpoints = &terms.points.watchpoints;
+    let watchpoints = &context.points.watchpoints;
     match end_run(
         reason,
         &plan,
         watchpoints,
-        terms.features,
+        context.features,
         progress,
         sent,
         machine,
@@ -165,7 +166,7 @@ fn end_return<D: Decider, C: KeptCode, L: Exceptions, U: SysTickState, W: Out>(
 
 /// Asks GDB, with the machine where it was. The search goes on from the tick `low`.
 fn ask<D: Decider, C: KeptCode, L: Exceptions, U: SysTickState, W: Out>(
-    quest: Quest,
+    scope: SearchScope,
     low: u64,
     position: &Position<L, U>,
     sent: &mut SentPacket,
@@ -173,23 +174,24 @@ fn ask<D: Decider, C: KeptCode, L: Exceptions, U: SysTickState, W: Out>(
     out: &mut W,
 ) -> Result<Return, IoError>
     requires { AreOfOneMachine machine.old.state position.now }
-    ensures delivers { Delivers (said (flow_at position.now) question ∷ []) machine.old machine.new (W.writing out.old)
+    ensures delivers { Delivers (said (flow_at position.now) poll_packet ∷ []) machine.old machine.new
+        (W.writing out.old)
         (W.writing out.new) result }
     ensures outcome { IfOk result (λ ends. ends ≡ Asks (record {
-      quest = record quest { end = low; continues = true };
+      scope = record scope { end = low; continues = true };
       is_interrupted = false;
     })) }
-    ensures sent { OnOk result (sent.new.items ≡ question) }
+    ensures sent { OnOk result (sent.new.items ≡ poll_packet) }
     ensures state { machine.new ≡ record machine.old { state = position.now } }
 {
     position.restore(machine);
-    match send_packet(QUESTION, sent, out) {
+    match send_packet(POLL_PACKET, sent, out) {
         Ok(()) => {
-            let mut quest = quest;
-            quest.end = low;
-            quest.continues = true;
+            let mut scope = scope;
+            scope.end = low;
+            scope.continues = true;
             Ok(Return::Asks(Search {
-                quest,
+                scope,
                 is_interrupted: false,
             }))
         }
@@ -202,7 +204,7 @@ fn ask<D: Decider, C: KeptCode, L: Exceptions, U: SysTickState, W: Out>(
 /// `position` is room for a state to go back to.
 pub fn go_back<D: Decider, C: KeptCode, L: Exceptions, U: SysTickState, W: Out>(
     search: Search,
-    terms: &Terms,
+    context: &RunContext,
     past: &mut Past<L, U>,
     position: &mut Position<L, U>,
     sent: &mut SentPacket,
@@ -211,7 +213,7 @@ pub fn go_back<D: Decider, C: KeptCode, L: Exceptions, U: SysTickState, W: Out>(
 ) -> Result<Return, IoError>
     requires past { AreOfOneMachine past.old.start machine.old.state }
     requires fits { AreOfOneMachine position.old machine.old.state }
-    ensures returns { Returns (return terms.now.settings terms.now.points.now terms.now.features past.old search
+    ensures returns { Returns (return context.now.settings context.now.points.now context.now.features past.old search
         machine.old.state) machine.old machine.new (W.writing out.old) (W.writing out.new) sent.new.items past.new
         result }
     ensures start { past.new.start ≡ past.old.start }
@@ -221,16 +223,23 @@ pub fn go_back<D: Decider, C: KeptCode, L: Exceptions, U: SysTickState, W: Out>(
     let mut progress = Progress::new(0, None);
     if search.is_interrupted {
         let reason = StopReason::Interrupted;
-        return end_return(reason, terms, &mut progress, sent, machine, out);
+        return end_return(reason, context, &mut progress, sent, machine, out);
     }
     position.take(machine);
-    let quest = search.quest;
-    let low = low_of(terms.features, quest.end);
-    match place_back(quest, terms.points, &terms.settings, low, past, machine) {
-        Some(spot) => {
-            arrive(spot, past, &mut progress, machine);
-            end_return(spot.found.reason, terms, &mut progress, sent, machine, out)
+    let scope = search.scope;
+    let low = low_of(context.features, scope.end);
+    match place_back(scope, context.points, &context.settings, low, past, machine) {
+        Some(target) => {
+            arrive(target, past, &mut progress, machine);
+            end_return(
+                target.found.reason,
+                context,
+                &mut progress,
+                sent,
+                machine,
+                out,
+            )
         }
-        None => ask(quest, low, position, sent, machine, out),
+        None => ask(scope, low, position, sent, machine, out),
     }
 }

@@ -29,7 +29,7 @@ pub enum Way {
 
 /// What is searched for, and where.
 #[derive(Clone, Copy)]
-pub struct Quest {
+pub struct SearchScope {
     pub way: Way,
     /// The tick at which the run backwards began.
     pub now: u64,
@@ -41,16 +41,16 @@ pub struct Quest {
 
 /// A place in the past, by the number of steps after a mark, and why a run backwards ends there.
 #[derive(Clone, Copy)]
-pub struct Found {
+pub struct FoundPlace {
     pub steps: u64,
     pub reason: StopReason,
 }
 
 /// A place in the past, by the number of a mark from the last one.
 #[derive(Clone, Copy)]
-pub struct Spot {
+pub struct ReverseTarget {
     pub number: usize,
-    pub found: Found,
+    pub found: FoundPlace,
 }
 
 /// Returns why a run backwards by a unit ends at the end of a step, which was an Instruction step or not.
@@ -124,23 +124,23 @@ fn reason_of_next<D: Decider, C: KeptCode, L: Exceptions, U: SysTickState>(
 
 /// Makes a step. Returns why a run backwards ends at the place that it leads to, if it does.
 fn reason_there<D: Decider, C: KeptCode, L: Exceptions, U: SysTickState>(
-    quest: Quest,
+    scope: SearchScope,
     points: &Points,
     settings: &Settings,
     tick: u64,
     events: &mut Events,
     machine: &mut Machine<D, C, L, U>,
 ) -> Option<StopReason>
-    ensures reason { result ≡ reason_there quest.way points.now settings.now (nat_lt tick quest.now)
-        (quest.continues || nat_lt tick quest.end) machine.old.state }
+    ensures reason { result ≡ reason_there scope.way points.now settings.now (nat_lt tick scope.now)
+        (scope.continues || nat_lt tick scope.end) machine.old.state }
     ensures state { machine.new ≡ record machine.old { state = (step machine.old.state).state } }
 {
-    let before = tick < quest.now;
-    match make_step_back(quest.way, points, settings, before, events, machine) {
+    let before = tick < scope.now;
+    match make_step_back(scope.way, points, settings, before, events, machine) {
         Some(reason) => Some(reason),
         None => {
-            if quest.continues || tick < quest.end {
-                reason_of_next(quest.way, points, machine)
+            if scope.continues || tick < scope.end {
+                reason_of_next(scope.way, points, machine)
             } else {
                 None
             }
@@ -149,11 +149,15 @@ fn reason_there<D: Decider, C: KeptCode, L: Exceptions, U: SysTickState>(
 }
 
 /// Returns the place after some steps, where there is a reason, or else an earlier one.
-fn found_if(steps: u64, reason: Option<StopReason>, earlier: Option<Found>) -> Option<Found>
+fn found_if(
+    steps: u64,
+    reason: Option<StopReason>,
+    earlier: Option<FoundPlace>,
+) -> Option<FoundPlace>
     ensures { result ≡ found_if steps reason earlier }
 {
     match reason {
-        Some(reason) => Some(Found { steps, reason }),
+        Some(reason) => Some(FoundPlace { steps, reason }),
         None => earlier,
     }
 }
@@ -161,17 +165,17 @@ fn found_if(steps: u64, reason: Option<StopReason>, earlier: Option<Found>) -> O
 /// Makes the steps from a mark, whose tick is `tick`. Returns the last place with a reason among the `count` ones after
 /// the first `low` ones.
 fn last_found<D: Decider, C: KeptCode, L: Exceptions, U: SysTickState>(
-    quest: Quest,
+    scope: SearchScope,
     points: &Points,
     settings: &Settings,
     tick: u64,
     low: u64,
     count: u64,
     machine: &mut Machine<D, C, L, U>,
-) -> Option<Found>
+) -> Option<FoundPlace>
     requires tick { tick ≡ tick_of machine.old.state }
     requires room { tick + low + count < 2 ^ 64 }
-    ensures found { result ≡ last_found quest points.now settings.now machine.old.state low count }
+    ensures found { result ≡ last_found scope points.now settings.now machine.old.state low count }
     ensures same { AreOfOneMachine machine.old.state machine.new.state }
     ensures kept { machine.new.broken ≡ machine.old.broken }
 {
@@ -181,7 +185,7 @@ fn last_found<D: Decider, C: KeptCode, L: Exceptions, U: SysTickState>(
     'steps: for step in 0..count {
         let steps = low + step + 1;
         let at = tick + steps;
-        let reason = reason_there(quest, points, settings, at, &mut events, machine);
+        let reason = reason_there(scope, points, settings, at, &mut events, machine);
         found = found_if(steps, reason, found);
     }
     found
@@ -207,43 +211,43 @@ fn reason_of_mark<D: Decider, C: KeptCode, L: Exceptions, U: SysTickState>(
 
 /// Returns the place of a mark, where the machine is, if a run backwards ends there.
 fn mark_found<D: Decider, C: KeptCode, L: Exceptions, U: SysTickState>(
-    quest: Quest,
+    scope: SearchScope,
     points: &Points,
     tick: u64,
     machine: &Machine<D, C, L, U>,
-) -> Option<Found>
+) -> Option<FoundPlace>
     requires { tick ≡ tick_of machine.now.state }
-    ensures { result ≡ mark_found quest points.now machine.now.state }
+    ensures { result ≡ mark_found scope points.now machine.now.state }
 {
     found_if(
         0,
-        reason_of_mark(quest.way, points, tick < quest.now, machine),
+        reason_of_mark(scope.way, points, tick < scope.now, machine),
         None,
     )
 }
 
 /// Returns the last place with a reason after a mark, where the machine is, and after the tick `low`; or the mark.
 fn found_from<D: Decider, C: KeptCode, L: Exceptions, U: SysTickState>(
-    quest: Quest,
+    scope: SearchScope,
     points: &Points,
     settings: &Settings,
     tick: u64,
     low: u64,
     machine: &mut Machine<D, C, L, U>,
-) -> Option<Found>
+) -> Option<FoundPlace>
     requires { tick ≡ tick_of machine.old.state }
-    ensures found { result ≡ found_from quest points.now settings.now low machine.old.state }
+    ensures found { result ≡ found_from scope points.now settings.now low machine.old.state }
     ensures same { AreOfOneMachine machine.old.state machine.new.state }
     ensures kept { machine.new.broken ≡ machine.old.broken }
 {
     let mark = if low <= tick {
-        mark_found(quest, points, tick, machine)
+        mark_found(scope, points, tick, machine)
     } else {
         None
     };
     let skipped = low.saturating_sub(tick);
-    let count = quest.end.saturating_sub(tick).saturating_sub(skipped);
-    match last_found(quest, points, settings, tick, skipped, count, machine) {
+    let count = scope.end.saturating_sub(tick).saturating_sub(skipped);
+    match last_found(scope, points, settings, tick, skipped, count, machine) {
         Some(found) => Some(found),
         None => mark,
     }
@@ -252,41 +256,41 @@ fn found_from<D: Decider, C: KeptCode, L: Exceptions, U: SysTickState>(
 /// Searches the past down to the tick `low`. Returns the last place with a reason, or the first mark; and None where
 /// only earlier places are left.
 pub fn place_back<D: Decider, C: KeptCode, L: Exceptions, U: SysTickState>(
-    quest: Quest,
+    scope: SearchScope,
     points: &Points,
     settings: &Settings,
     low: u64,
     past: &Past<L, U>,
     machine: &mut Machine<D, C, L, U>,
-) -> Option<Spot>
+) -> Option<ReverseTarget>
     requires { AreOfOneMachine past.now.start machine.old.state }
-    ensures place { (s : State) → option_map (λ spot. place_of (drop spot.number past.now.marks)
-        (slice_index_or past.now.marks spot.number s) spot.found) result
-        ≡ place_back quest points.now settings.now low s past.now.marks }
-    ensures number { IfSome result (λ spot. spot.number < length past.now.marks) }
+    ensures place { (s : State) → option_map (λ target. place_of (drop target.number past.now.marks)
+        (slice_index_or past.now.marks target.number s) target.found) result
+        ≡ place_back scope points.now settings.now low s past.now.marks }
+    ensures number { IfSome result (λ target. target.number < length past.now.marks) }
     ensures same { AreOfOneMachine past.now.start machine.new.state }
     ensures kept { machine.new.broken ≡ machine.old.broken }
 {
-    let mut quest = quest;
+    let mut scope = scope;
     'marks: for number in 0..past.count() {
         let tick = past.tick(number);
-        if tick <= quest.end {
+        if tick <= scope.end {
             past.restore(number, machine);
-            if let Some(found) = found_from(quest, points, settings, tick, low, machine) {
-                return Some(Spot { number, found });
+            if let Some(found) = found_from(scope, points, settings, tick, low, machine) {
+                return Some(ReverseTarget { number, found });
             }
             if tick < low {
                 return None;
             }
-            quest.end = tick;
-            quest.continues = false;
+            scope.end = tick;
+            scope.continues = false;
         }
     }
-    let found = Found {
+    let found = FoundPlace {
         steps: 0,
         reason: StopReason::PastBegins,
     };
-    Some(Spot {
+    Some(ReverseTarget {
         number: past.count() - 1,
         found,
     })

@@ -11,7 +11,7 @@ ghost use Rattle.serving.specs.Pieces.{Delivers};
 
 use crate::registers::register_values;
 use crate::slices::{Plan, Points, Progress, run_slice};
-use crate::whys::told_stop;
+use crate::whys::stop_with_line;
 use arrayvec::ArrayVec;
 use gdb_packets::put_packet;
 use gdb_past::Position;
@@ -23,10 +23,10 @@ use machine::{Decider, Exceptions, KeptCode, Machine, SysTickState};
 use output::{IoError, Out};
 
 /// The most steps before GDB is asked, and before the text of another client is sent.
-pub const STEPS_AT_ONCE: u64 = 1_000_000;
+pub const MAX_SLICE_STEPS: u64 = 1_000_000;
 
 /// The question whether GDB's console is a terminal: GDB answers it at once, and says whether its user has interrupted.
-pub const QUESTION: &[u8] = b"Fisatty,0";
+pub const POLL_PACKET: &[u8] = b"Fisatty,0";
 
 /// The last packet that was sent: what `-` asks for again.
 pub type SentPacket = ArrayVec<u8, 8200>;
@@ -43,7 +43,7 @@ pub struct Run {
 
 /// What a run reads of its session.
 #[derive(Clone, Copy)]
-pub struct Terms<'a> {
+pub struct RunContext<'a> {
     pub points: &'a Points,
     pub settings: Settings,
     pub features: Features,
@@ -109,7 +109,7 @@ pub fn end_run<D: Decider, C: KeptCode, L: Exceptions, U: SysTickState, W: Out>(
     match progress.put_whys(
         &plan.settings,
         watchpoints,
-        told_stop(reason, machine.stop()),
+        stop_with_line(reason, machine.stop()),
         out,
     ) {
         Ok(()) => {}
@@ -150,7 +150,7 @@ fn steps_left(budget: Option<u32>, made: u64) -> u64
 /// Makes the last slice of a turn, of `steps` steps, and ends the run.
 fn last_slice<D: Decider, C: KeptCode, L: Exceptions, U: SysTickState, W: Out>(
     plan: &Plan,
-    terms: &Terms,
+    context: &RunContext,
     steps: u64,
     position: &mut Position<L, U>,
     progress: &mut Progress,
@@ -160,21 +160,29 @@ fn last_slice<D: Decider, C: KeptCode, L: Exceptions, U: SysTickState, W: Out>(
 ) -> Result<Turn, IoError>
     requires room { progress.old.made + steps < 2 ^ 64 }
     requires fits { AreOfOneMachine position.old machine.old.state }
-    ensures takes { MakesTurn (last_slice plan.now terms.now.points.now.watchpoints terms.now.features
-        (slice plan.now terms.now.points.now steps (flow progress.old machine.old.state)))
+    ensures takes { MakesTurn (last_slice plan.now context.now.points.now.watchpoints context.now.features
+        (slice plan.now context.now.points.now steps (flow progress.old machine.old.state)))
         machine.old machine.new (W.writing out.old) (W.writing out.new) sent.new.items result }
     ensures fits { AreOfOneMachine position.new machine.new.state }
     ensures same { AreOfOneMachine machine.old.state machine.new.state }
 {
-    match run_slice(plan, terms.points, steps, position, progress, machine, out) {
+    match run_slice(
+        plan,
+        context.points,
+        steps,
+        position,
+        progress,
+        machine,
+        out,
+    ) {
         Ok(reason) => {
             let reason = reason.unwrap_or(StopReason::Interrupted);
-            let watchpoints = &terms.points.watchpoints;
+            let watchpoints = &context.points.watchpoints;
             end_run(
                 reason,
                 plan,
                 watchpoints,
-                terms.features,
+                context.features,
                 progress,
                 sent,
                 machine,
@@ -188,7 +196,7 @@ fn last_slice<D: Decider, C: KeptCode, L: Exceptions, U: SysTickState, W: Out>(
 /// Makes the slices of `left` steps, up to the end of the run or a question.
 fn make_slices<D: Decider, C: KeptCode, L: Exceptions, U: SysTickState, W: Out>(
     plan: &Plan,
-    terms: &Terms,
+    context: &RunContext,
     left: u64,
     position: &mut Position<L, U>,
     progress: &mut Progress,
@@ -198,19 +206,19 @@ fn make_slices<D: Decider, C: KeptCode, L: Exceptions, U: SysTickState, W: Out>(
 ) -> Result<Turn, IoError>
     requires room { progress.old.made + left < 2 ^ 64 }
     requires fits { AreOfOneMachine position.old machine.old.state }
-    ensures takes { MakesTurn (all_slices plan.now terms.now.points.now terms.now.features left
+    ensures takes { MakesTurn (all_slices plan.now context.now.points.now context.now.features left
         (flow progress.old machine.old.state))
         machine.old machine.new (W.writing out.old) (W.writing out.new) sent.new.items result }
     ensures fits { AreOfOneMachine position.new machine.new.state }
     ensures same { AreOfOneMachine machine.old.state machine.new.state }
 {
-    let watchpoints = &terms.points.watchpoints;
-    let mut whole = left / STEPS_AT_ONCE;
+    let watchpoints = &context.points.watchpoints;
+    let mut whole = left / MAX_SLICE_STEPS;
     'slices: while whole > 0 {
         match run_slice(
             plan,
-            terms.points,
-            STEPS_AT_ONCE,
+            context.points,
+            MAX_SLICE_STEPS,
             position,
             progress,
             machine,
@@ -222,7 +230,7 @@ fn make_slices<D: Decider, C: KeptCode, L: Exceptions, U: SysTickState, W: Out>(
                     reason,
                     plan,
                     watchpoints,
-                    terms.features,
+                    context.features,
                     progress,
                     sent,
                     machine,
@@ -235,16 +243,16 @@ fn make_slices<D: Decider, C: KeptCode, L: Exceptions, U: SysTickState, W: Out>(
             Ok(()) => {}
             Err(error) => return Err(error),
         }
-        if terms.features.is_gdb {
-            return match send_packet(QUESTION, sent, out) {
+        if context.features.is_gdb {
+            return match send_packet(POLL_PACKET, sent, out) {
                 Ok(()) => Ok(asked(plan.how, progress)),
                 Err(error) => Err(error),
             };
         }
         whole -= 1;
     }
-    let rest = left % STEPS_AT_ONCE;
-    last_slice(plan, terms, rest, position, progress, sent, machine, out)
+    let rest = left % MAX_SLICE_STEPS;
+    last_slice(plan, context, rest, position, progress, sent, machine, out)
 }
 
 /// Makes a run's next steps: at most 1,000,000 before GDB is asked whether its user has interrupted; a client that
@@ -252,7 +260,7 @@ fn make_slices<D: Decider, C: KeptCode, L: Exceptions, U: SysTickState, W: Out>(
 /// `position` is room for a state to go back to.
 pub fn run_turn<D: Decider, C: KeptCode, L: Exceptions, U: SysTickState, W: Out>(
     run: Run,
-    terms: &Terms,
+    context: &RunContext,
     position: &mut Position<L, U>,
     sent: &mut SentPacket,
     machine: &mut Machine<D, C, L, U>,
@@ -261,17 +269,18 @@ pub fn run_turn<D: Decider, C: KeptCode, L: Exceptions, U: SysTickState, W: Out>
     requires { AreOfOneMachine position.old machine.old.state }
     ensures fits { AreOfOneMachine position.new machine.new.state }
     ensures same { AreOfOneMachine machine.old.state machine.new.state }
-    ensures delivers { Delivers (turn terms.now.points.now terms.now.settings terms.now.features terms.now.limit run
+    ensures delivers { Delivers
+        (turn context.now.points.now context.now.settings context.now.features context.now.limit run
         machine.old.state).pieces machine.old machine.new (W.writing out.old) (W.writing out.new) result }
-    ensures outcome { IfOk result (λ ends. ends ≡ (turn terms.now.points.now terms.now.settings terms.now.features
-        terms.now.limit run machine.old.state).outcome) }
-    ensures sent { IfOk result (λ ends. sent.new.items ≡ (turn terms.now.points.now terms.now.settings
-        terms.now.features terms.now.limit run machine.old.state).sent) }
+    ensures outcome { IfOk result (λ ends. ends ≡ (turn context.now.points.now context.now.settings context.now.features
+        context.now.limit run machine.old.state).outcome) }
+    ensures sent { IfOk result (λ ends. sent.new.items ≡ (turn context.now.points.now context.now.settings
+        context.now.features context.now.limit run machine.old.state).sent) }
 {
     let plan = Plan {
         how: run.how,
-        limit: terms.limit,
-        settings: terms.settings,
+        limit: context.limit,
+        settings: context.settings,
     };
     let mut progress = Progress::new(run.made, run.last);
     if run.is_interrupted {
@@ -279,18 +288,21 @@ pub fn run_turn<D: Decider, C: KeptCode, L: Exceptions, U: SysTickState, W: Out>
         return end_run(
             reason,
             &plan,
-            &terms.points.watchpoints,
-            terms.features,
+            &context.points.watchpoints,
+            context.features,
             &mut progress,
             sent,
             machine,
             out,
         );
     }
-    let left = steps_left(max_steps(terms.settings, terms.features.is_gdb), run.made);
+    let left = steps_left(
+        max_steps(context.settings, context.features.is_gdb),
+        run.made,
+    );
     make_slices(
         &plan,
-        terms,
+        context,
         left,
         position,
         &mut progress,

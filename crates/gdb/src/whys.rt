@@ -3,9 +3,10 @@
 ghost use Rattle.std.specs.Prelude.{◌≡◌, [], ◌∷◌};
 ghost use Rattle.std.specs.List.{list_any};
 ghost use Rattle.gdb.specs.Consoles.{ShowsText};
-ghost use Rattle.gdb.specs.Whys.{has_line, is_told, line_begun, lines_of, stop_text, stops_at, told_lines, told_stop};
+ghost use Rattle.gdb.specs.Whys.{has_line, needs_line, line_begun, lines_of, stop_text, is_stop_event, needed_lines};
+ghost use Rattle.gdb.specs.Whys.{stop_with_line};
 ghost use Rattle.gdb.specs.Whys.{why_text};
-ghost use Rattle.trace.specs.Selection.{is_refusal};
+ghost use Rattle.trace.specs.Selection.{is_refusal_or_fault};
 
 use crate::console::Console;
 use crate::steps::{event_hit, is_entry, selection_of};
@@ -16,31 +17,31 @@ use platform::event::EventKind;
 use platform::stop::Stop;
 
 /// Returns whether an event is a refused access or a recorded fault.
-fn is_refusal(what: &EventKind) -> bool
-    ensures { result ≡ is_refusal what.now }
+fn is_refusal_or_fault(what: &EventKind) -> bool
+    ensures { result ≡ is_refusal_or_fault what.now }
 {
     what.is_refused() || what.recorded_fault().is_some()
 }
 
 /// Returns whether a stop that the settings ask for may tell of an event.
-fn stops_at(settings: &Settings, what: &EventKind) -> bool
-    ensures { result ≡ stops_at settings.now what.now }
+fn is_stop_event(settings: &Settings, what: &EventKind) -> bool
+    ensures { result ≡ is_stop_event settings.now what.now }
 {
-    (settings.refused || settings.faults) && is_refusal(what)
+    (settings.refused || settings.faults) && is_refusal_or_fault(what)
         || settings.exceptions && is_entry(what)
 }
 
 /// Returns whether the line of an event is still to be told.
-fn is_told(settings: &Settings, watchpoints: &Watchpoints, what: &EventKind) -> bool
-    ensures { result ≡ is_told settings.now watchpoints.now what.now }
+fn needs_line(settings: &Settings, watchpoints: &Watchpoints, what: &EventKind) -> bool
+    ensures { result ≡ needs_line settings.now watchpoints.now what.now }
 {
-    (event_hit(watchpoints, what).is_some() || stops_at(settings, what))
+    (event_hit(watchpoints, what).is_some() || is_stop_event(settings, what))
         && !selection_of(settings.selection).selects(what)
 }
 
 /// Returns the stop that has a line. `before` is why the machine has stopped, if it has.
-pub fn told_stop(reason: StopReason, before: Option<Stop>) -> Option<Stop>
-    ensures { result ≡ told_stop reason before }
+pub fn stop_with_line(reason: StopReason, before: Option<Stop>) -> Option<Stop>
+    ensures { result ≡ stop_with_line reason before }
 {
     match reason {
         StopReason::Stopped(stop) => Some(stop),
@@ -57,12 +58,12 @@ pub fn told_stop(reason: StopReason, before: Option<Stop>) -> Option<Stop>
 }
 
 /// Returns whether one of some events has a line that is still to be told.
-fn has_told(settings: &Settings, watchpoints: &Watchpoints, events: &[Event]) -> bool
-    ensures { result ≡ list_any (λ e. is_told settings.now watchpoints.now e.what) events.now }
+fn has_needed_line(settings: &Settings, watchpoints: &Watchpoints, events: &[Event]) -> bool
+    ensures { result ≡ list_any (λ e. needs_line settings.now watchpoints.now e.what) events.now }
 {
     events
         .iter()
-        .any(|event| is_told(settings, watchpoints, &event.what))
+        .any(|event| needs_line(settings, watchpoints, &event.what))
 }
 
 /// Returns whether there is a line to tell.
@@ -74,7 +75,7 @@ fn has_line(
 ) -> bool
     ensures { result ≡ has_line settings.now watchpoints.now events.now stop }
 {
-    has_told(settings, watchpoints, events) || stop.is_some()
+    has_needed_line(settings, watchpoints, events) || stop.is_some()
 }
 
 /// Returns a line feed where a line follows, unless the text is empty or ends with one.
@@ -88,7 +89,7 @@ fn line_begun(follows: bool, last: Option<u8>) -> &'static [u8]
 }
 
 /// Puts the line of an event that is still to be told.
-fn put_told_event<W: Out>(
+fn put_line_if_needed<W: Out>(
     settings: &Settings,
     watchpoints: &Watchpoints,
     event: &Event,
@@ -96,16 +97,16 @@ fn put_told_event<W: Out>(
     out: &mut W,
 ) -> Result<(), IoError>
     ensures { ShowsText (W.writing out.old) (W.writing out.new) console.old console.new
-        (told_lines settings.now watchpoints.now (event.now ∷ [])) result }
+        (needed_lines settings.now watchpoints.now (event.now ∷ [])) result }
 {
-    if is_told(settings, watchpoints, &event.what) {
+    if needs_line(settings, watchpoints, &event.what) {
         return console.put(event_line(event).as_slice(), out);
     }
     Ok(())
 }
 
 /// Puts the lines of the events that are still to be told.
-fn put_told<W: Out>(
+fn put_needed_lines<W: Out>(
     settings: &Settings,
     watchpoints: &Watchpoints,
     events: &[Event],
@@ -113,10 +114,10 @@ fn put_told<W: Out>(
     out: &mut W,
 ) -> Result<(), IoError>
     ensures { ShowsText (W.writing out.old) (W.writing out.new) console.old console.new
-        (told_lines settings.now watchpoints.now events.now) result }
+        (needed_lines settings.now watchpoints.now events.now) result }
 {
     'events: for event in events {
-        match put_told_event(settings, watchpoints, event, console, out) {
+        match put_line_if_needed(settings, watchpoints, event, console, out) {
             Ok(()) => {}
             Err(error) => return Err(error),
         }
@@ -151,7 +152,7 @@ fn put_lines<W: Out>(
         Ok(()) => {}
         Err(error) => return Err(error),
     }
-    match put_told(settings, watchpoints, events, console, out) {
+    match put_needed_lines(settings, watchpoints, events, console, out) {
         Ok(()) => {}
         Err(error) => return Err(error),
     }

@@ -4,4 +4,4 @@ pub mod Framing
 pub mod Numbers
 pub mod Packets
 pub mod Replies
-pub mod Seen
+pub mod Views

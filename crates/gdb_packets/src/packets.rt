@@ -6,7 +6,7 @@ ghost use Rattle.gdb_packets.specs.Packets.{has_digits, is_thread, kind_of, need
 ghost use Rattle.gdb_packets.specs.Packets.{point_packet, read_annex, read_command, read_described, read_map};
 ghost use Rattle.gdb_packets.specs.Packets.{read_memory, read_one, read_region, read_signal, read_thread, tailed};
 ghost use Rattle.gdb_packets.specs.Packets.{unless_more, with_tail, write_binary, write_memory, write_register};
-ghost use Rattle.gdb_packets.specs.Seen.{seen_packet};
+ghost use Rattle.gdb_packets.specs.Views.{packet_view};
 
 use crate::numbers::{are_digits, number, two_numbers};
 use crate::parts::parted;
@@ -118,7 +118,7 @@ pub struct Packet<'a> {
 
 /// Returns a packet with no tail.
 fn asked<'a>(request: Request) -> Packet<'a>
-    ensures { seen_packet result ≡ asked request }
+    ensures { packet_view result ≡ asked request }
 {
     Packet { request, tail: b"" }
 }
@@ -151,7 +151,7 @@ fn begins_with(prefix: &[u8], text: &[u8]) -> bool
 /// Returns what the data of a packet asks for.
 #[tactic(auto, unfolding(crate::specs::Packets::packet_of))]
 pub fn read_packet(content: &[u8]) -> Packet<'_>
-    ensures { seen_packet result ≡ packet_of content.now }
+    ensures { packet_view result ≡ packet_of content.now }
 {
     match content {
         [] => asked(Request::Unknown),
@@ -162,7 +162,7 @@ pub fn read_packet(content: &[u8]) -> Packet<'_>
 /// Reads a packet whose name is its first letter, or else by its whole name.
 #[tactic(auto, unfolding(crate::specs::Packets::by_letter))]
 fn by_letter<'a>(letter: u8, rest: &'a [u8], content: &'a [u8]) -> Packet<'a>
-    ensures { seen_packet result ≡ by_letter letter rest.now content.now }
+    ensures { packet_view result ≡ by_letter letter rest.now content.now }
 {
     match letter {
         b'm' => read_memory(two_numbers(rest)),
@@ -190,7 +190,7 @@ fn by_letter<'a>(letter: u8, rest: &'a [u8], content: &'a [u8]) -> Packet<'a>
 
 /// Reads `m`.
 fn read_memory<'a>(range: Option<(u32, u32)>) -> Packet<'a>
-    ensures { seen_packet result ≡ read_memory range }
+    ensures { packet_view result ≡ read_memory range }
 {
     match range {
         Some((address, length)) if length != 0 => asked(Request::ReadMemory(address, length)),
@@ -200,7 +200,7 @@ fn read_memory<'a>(range: Option<(u32, u32)>) -> Packet<'a>
 
 /// Reads `M`.
 fn write_memory(rest: &[u8]) -> Packet<'_>
-    ensures { seen_packet result ≡ write_memory rest.now }
+    ensures { packet_view result ≡ write_memory rest.now }
 {
     let Some(parts) = parted(b':', rest) else {
         return asked(Request::Malformed);
@@ -217,7 +217,7 @@ fn write_memory(rest: &[u8]) -> Packet<'_>
 
 /// Reads `X`.
 fn write_binary(rest: &[u8]) -> Packet<'_>
-    ensures { seen_packet result ≡ write_binary rest.now }
+    ensures { packet_view result ≡ write_binary rest.now }
 {
     let Some(parts) = parted(b':', rest) else {
         return asked(Request::Malformed);
@@ -233,7 +233,7 @@ fn write_binary(rest: &[u8]) -> Packet<'_>
 
 /// Returns a packet whose tail is this many digits.
 fn has_digits(request: Request, count: u64, digits: &[u8]) -> Packet<'_>
-    ensures { seen_packet result ≡ has_digits request count digits.now }
+    ensures { packet_view result ≡ has_digits request count digits.now }
 {
     if are_digits(count, digits) {
         Packet {
@@ -247,7 +247,7 @@ fn has_digits(request: Request, count: u64, digits: &[u8]) -> Packet<'_>
 
 /// Reads `p`.
 fn read_one<'a>(register: Option<u32>) -> Packet<'a>
-    ensures { seen_packet result ≡ read_one register }
+    ensures { packet_view result ≡ read_one register }
 {
     match register {
         Some(register) => asked(Request::ReadRegister(register)),
@@ -257,7 +257,7 @@ fn read_one<'a>(register: Option<u32>) -> Packet<'a>
 
 /// Reads `P`.
 fn write_register(rest: &[u8]) -> Packet<'_>
-    ensures { seen_packet result ≡ write_register rest.now }
+    ensures { packet_view result ≡ write_register rest.now }
 {
     let Some(parts) = parted(b'=', rest) else {
         return asked(Request::Malformed);
@@ -270,7 +270,7 @@ fn write_register(rest: &[u8]) -> Packet<'_>
 
 /// Returns a packet that has nothing after its letter.
 fn unless_more<'a>(request: Request, rest: &[u8]) -> Packet<'a>
-    ensures { seen_packet result ≡ unless_more request rest.now }
+    ensures { packet_view result ≡ unless_more request rest.now }
 {
     if rest.is_empty() {
         asked(request)
@@ -281,7 +281,7 @@ fn unless_more<'a>(request: Request, rest: &[u8]) -> Packet<'a>
 
 /// Returns a packet that has a signal, which is ignored.
 fn read_signal<'a>(request: Request, signal: Option<u32>) -> Packet<'a>
-    ensures { seen_packet result ≡ read_signal request signal }
+    ensures { packet_view result ≡ read_signal request signal }
 {
     match signal {
         Some(_) => asked(request),
@@ -304,7 +304,7 @@ fn is_thread(text: &[u8]) -> bool
 
 /// Reads `H`.
 fn read_thread<'a>(rest: &[u8]) -> Packet<'a>
-    ensures { seen_packet result ≡ read_thread rest.now }
+    ensures { packet_view result ≡ read_thread rest.now }
 {
     let is_known = begins_with(b"g", rest) || begins_with(b"c", rest);
     if is_known && is_thread(skip(1, rest)) {
@@ -316,7 +316,7 @@ fn read_thread<'a>(rest: &[u8]) -> Packet<'a>
 
 /// Returns a packet that takes `1` alone, the one thread.
 fn read_described<'a>(request: Request, rest: &[u8]) -> Packet<'a>
-    ensures { seen_packet result ≡ read_described request rest.now }
+    ensures { packet_view result ≡ read_described request rest.now }
 {
     if is_same(rest, b"1") {
         asked(request)
@@ -364,7 +364,7 @@ fn comma_numbers(text: &[u8]) -> Option<(u32, u32)>
 
 /// Reads `Z` or `z`.
 fn point_packet<'a>(inserts: bool, rest: &[u8]) -> Packet<'a>
-    ensures { seen_packet result ≡ point_packet inserts rest.now }
+    ensures { packet_view result ≡ point_packet inserts rest.now }
 {
     match rest {
         [] => asked(Request::Unknown),
@@ -377,7 +377,7 @@ fn point_packet<'a>(inserts: bool, rest: &[u8]) -> Packet<'a>
 
 /// Returns the packet of a breakpoint or watchpoint.
 fn point_at<'a>(inserts: bool, kind: PointKind, range: Option<(u32, u32)>) -> Packet<'a>
-    ensures { seen_packet result ≡ point_at inserts kind range }
+    ensures { packet_view result ≡ point_at inserts kind range }
 {
     let Some((address, length)) = range else {
         return asked(Request::Malformed);
@@ -403,7 +403,7 @@ fn point(inserts: bool, kind: PointKind, address: u32, length: u32) -> Request
 /// Reads a packet that is one name.
 #[tactic(auto, unfolding(crate::specs::Packets::by_name))]
 fn by_name(content: &[u8]) -> Packet<'_>
-    ensures { seen_packet result ≡ by_name content.now }
+    ensures { packet_view result ≡ by_name content.now }
 {
     if is_same(content, b"?") {
         asked(Request::StopReason)
@@ -437,7 +437,7 @@ fn by_name(content: &[u8]) -> Packet<'_>
 /// Reads a packet that is a name, or a name and a sign with what follows.
 #[tactic(auto, unfolding(crate::specs::Packets::with_tail))]
 fn with_tail(content: &[u8]) -> Packet<'_>
-    ensures { seen_packet result ≡ with_tail content.now }
+    ensures { packet_view result ≡ with_tail content.now }
 {
     if is_same(content, b"D") || begins_with(b"D;", content) {
         tailed(Request::Detach, 2, content)
@@ -456,7 +456,7 @@ fn with_tail(content: &[u8]) -> Packet<'_>
 
 /// Returns a packet whose tail follows this many bytes.
 fn tailed(request: Request, count: usize, content: &[u8]) -> Packet<'_>
-    ensures { seen_packet result ≡ tailed request count content.now }
+    ensures { packet_view result ≡ tailed request count content.now }
 {
     Packet {
         request,
@@ -467,7 +467,7 @@ fn tailed(request: Request, count: usize, content: &[u8]) -> Packet<'_>
 /// Reads a packet that is a name and a sign, with fields after it.
 #[tactic(auto, unfolding(crate::specs::Packets::by_prefix))]
 fn by_prefix(content: &[u8]) -> Packet<'_>
-    ensures { seen_packet result ≡ by_prefix content.now }
+    ensures { packet_view result ≡ by_prefix content.now }
 {
     if begins_with(b"qRcmd,", content) {
         read_command(skip(6, content))
@@ -488,14 +488,14 @@ fn by_prefix(content: &[u8]) -> Packet<'_>
 
 /// Reads `qRcmd`, whose digits are in pairs.
 fn read_command(digits: &[u8]) -> Packet<'_>
-    ensures { seen_packet result ≡ read_command digits.now }
+    ensures { packet_view result ≡ read_command digits.now }
 {
     has_digits(Request::Monitor, digits.len() as u64 / 2 * 2, digits)
 }
 
 /// Reads `qMemoryRegionInfo`.
 fn read_region<'a>(address: Option<u32>) -> Packet<'a>
-    ensures { seen_packet result ≡ read_region address }
+    ensures { packet_view result ≡ read_region address }
 {
     match address {
         Some(address) => asked(Request::MemoryRegion(address)),
@@ -505,7 +505,7 @@ fn read_region<'a>(address: Option<u32>) -> Packet<'a>
 
 /// Reads the annex, offset and length of `qXfer:features:read`.
 fn read_annex<'a>(text: &[u8]) -> Packet<'a>
-    ensures { seen_packet result ≡ read_annex text.now }
+    ensures { packet_view result ≡ read_annex text.now }
 {
     if !begins_with(b"target.xml:", text) {
         return asked(Request::NoAnnex);
@@ -518,7 +518,7 @@ fn read_annex<'a>(text: &[u8]) -> Packet<'a>
 
 /// Reads the offset and length of `qXfer:memory-map:read`.
 fn read_map<'a>(range: Option<(u32, u32)>) -> Packet<'a>
-    ensures { seen_packet result ≡ read_map range }
+    ensures { packet_view result ≡ read_map range }
 {
     match range {
         Some((offset, length)) => asked(Request::ReadMemoryMap(offset, length)),

@@ -1,7 +1,7 @@
 //! Texts in two parts.
 
 ghost use Rattle.std.specs.Prelude.{◌≡◌, ◌==◌, ◌<◌, length, position, option_map, IfSome};
-ghost use Rattle.gdb_packets.specs.Seen.{seen_parts};
+ghost use Rattle.gdb_packets.specs.Views.{parts_view};
 ghost use Rattle.gdb_packets.specs.Numbers.{parted};
 
 /// The parts of a text before and after a separator.
@@ -21,7 +21,7 @@ fn place_of(separator: u8, text: &[u8]) -> Option<usize>
 
 /// Returns the parts of a text before and after the first separator, if there is one.
 pub fn parted(separator: u8, text: &[u8]) -> Option<Parts<'_>>
-    ensures { option_map seen_parts result ≡ parted separator text.now }
+    ensures { option_map parts_view result ≡ parted separator text.now }
 {
     match place_of(separator, text) {
         None => None,

@@ -20,8 +20,8 @@ abbrev pub past_from : State → Past
 past_from s = record { start = s; marks = s ∷ [] }
 
 -- the most marks: the last ones are kept (profile)
-abbrev pub most_marks : ℕ
-most_marks = 8
+abbrev pub max_marks : ℕ
+max_marks = 8
 
 -- the marks before a tick
 abbrev pub below : ℕ → List State → List State
@@ -34,7 +34,7 @@ up_to tick marks = below (suc tick) marks
 
 -- after a write, which left this state
 abbrev pub marked : Past → State → Past
-marked past s = record past { marks = take most_marks (s ∷ below (tick_of s) past.marks) }
+marked past s = record past { marks = take max_marks (s ∷ below (tick_of s) past.marks) }
 
 -- where a block of memory is, and whether a store may change it
 pub record Extent : Type 0 where

@@ -1,10 +1,10 @@
 //! What a session keeps of a machine's past.
 
 ghost use Rattle.std.specs.Prelude.{◌≡◌, ◌<◌, ◌≤◌, ◌∷◌, drop, length, slice_index_or, take, IfOk};
-ghost use Rattle.gdb_past.specs.Places.{AreOfOneMachine, below, marked, most_marks, past_from, tick_of};
+ghost use Rattle.gdb_past.specs.Places.{AreOfOneMachine, below, marked, max_marks, past_from, tick_of};
 ghost use Rattle.reference.specs.State.{State};
 
-use machine::{Decider, Exceptions, Kept, KeptCode, Machine, SysTickState};
+use machine::{Decider, Exceptions, KeptCode, Machine, SavedState, SysTickState};
 use std::alloc::{AllocError, Global};
 use std::marker::Model;
 
@@ -14,7 +14,7 @@ const MAX_MARKS: usize = 8;
 /// Room for a mark: a state to which a session can go back, and its tick.
 #[derive(Drop)]
 struct Mark<L: Exceptions, U: SysTickState> {
-    kept: Kept<L, U>,
+    saved: SavedState<L, U>,
     tick: u64,
 }
 
@@ -25,9 +25,9 @@ impl<L: Exceptions, U: SysTickState> Model for Mark<L, U> {
 
     ghost Value = { State };
 
-    ghost view = { λ m. m.kept };
+    ghost view = { λ m. m.saved };
 
-    ghost invariant = { λ m. m.tick ≡ tick_of m.kept };
+    ghost invariant = { λ m. m.tick ≡ tick_of m.saved };
 }
 
 impl<L: Exceptions, U: SysTickState> Mark<L, U> {
@@ -39,7 +39,7 @@ impl<L: Exceptions, U: SysTickState> Mark<L, U> {
         ensures { IfOk result (λ mark. mark ≡ machine.now.state) }
     {
         Ok(Mark {
-            kept: machine.copied(alloc)?,
+            saved: machine.save(alloc)?,
             tick: machine.ticks(),
         })
     }
@@ -55,7 +55,7 @@ impl<L: Exceptions, U: SysTickState> Mark<L, U> {
         requires { AreOfOneMachine self.old machine.now.state }
         ensures { self.new ≡ machine.now.state }
     {
-        machine.keep(&mut self.kept);
+        machine.save_to(&mut self.saved);
         self.tick = machine.ticks();
     }
 
@@ -64,14 +64,14 @@ impl<L: Exceptions, U: SysTickState> Mark<L, U> {
         requires { AreOfOneMachine machine.old.state self.now }
         ensures { machine.new ≡ record machine.old { state = self.now } }
     {
-        machine.take_back(&self.kept);
+        machine.restore(&self.saved);
     }
 }
 
 /// What a session keeps of a machine's past.
 #[derive(Drop)]
 pub struct Past<L: Exceptions, U: SysTickState> {
-    start: Kept<L, U>,
+    start: SavedState<L, U>,
     /// Room for the marks, of which the first `count` are set.
     marks: Vec<Mark<L, U>>,
     count: usize,
@@ -97,7 +97,7 @@ impl<L: Exceptions, U: SysTickState> Past<L, U> {
     ) -> Result<Self, AllocError>
         ensures { IfOk result (λ past. past ≡ past_from machine.now.state) }
     {
-        let start = machine.copied(alloc)?;
+        let start = machine.save(alloc)?;
         let mut marks = Vec::new(alloc);
         'marks: for number in 0..MAX_MARKS {
             let _ = number;
@@ -114,7 +114,7 @@ impl<L: Exceptions, U: SysTickState> Past<L, U> {
     pub fn count(&self) -> usize
         ensures count { result ≡ length self.now.marks }
         ensures some { 0 < result }
-        ensures few { result ≤ most_marks }
+        ensures few { result ≤ max_marks }
     {
         self.count
     }
@@ -167,7 +167,7 @@ impl<L: Exceptions, U: SysTickState> Past<L, U> {
         requires few { count ≤ length self.old.marks }
         requires fits { AreOfOneMachine self.old.start machine.now.state }
         ensures { self.new ≡ record self.old {
-          marks = take most_marks (machine.now.state ∷ drop count self.old.marks);
+          marks = take max_marks (machine.now.state ∷ drop count self.old.marks);
         } }
     {
         self.marks.rotate_left(count);
@@ -191,7 +191,7 @@ impl<L: Exceptions, U: SysTickState> Past<L, U> {
         ensures machine { machine.new ≡ record machine.old { state = self.old.start } }
         ensures past { self.new ≡ past_from self.old.start }
     {
-        machine.take_back(&self.start);
+        machine.restore(&self.start);
         let count = self.count();
         self.put_after(count, machine);
     }

@@ -5,7 +5,7 @@ ghost use Rattle.gdb_past.specs.Places.{AreOfOneMachine};
 ghost use Rattle.reference.specs.Run.{after};
 ghost use Rattle.reference.specs.Step.{step};
 
-use machine::{Decider, Events, Exceptions, Kept, KeptCode, Machine, SysTickState};
+use machine::{Decider, Events, Exceptions, KeptCode, Machine, SavedState, SysTickState};
 use std::alloc::{AllocError, Global};
 use std::marker::Model;
 
@@ -16,7 +16,7 @@ const MAX_STEPS: u32 = 16_384;
 /// A state to go back to: a copy of an earlier one, and the number of steps from there.
 #[derive(Drop)]
 pub struct Position<L: Exceptions, U: SysTickState> {
-    kept: Kept<L, U>,
+    saved: SavedState<L, U>,
     steps: u32,
 }
 
@@ -26,7 +26,7 @@ impl<L: Exceptions, U: SysTickState> Model for Position<L, U> {
 
     ghost Value = { State };
 
-    ghost view = { λ p. after p.steps p.kept };
+    ghost view = { λ p. after p.steps p.saved };
 }
 
 impl<L: Exceptions, U: SysTickState> Position<L, U> {
@@ -38,7 +38,7 @@ impl<L: Exceptions, U: SysTickState> Position<L, U> {
         ensures { IfOk result (λ position. position ≡ machine.now.state) }
     {
         Ok(Position {
-            kept: machine.copied(alloc)?,
+            saved: machine.save(alloc)?,
             steps: 0,
         })
     }
@@ -48,7 +48,7 @@ impl<L: Exceptions, U: SysTickState> Position<L, U> {
         requires { AreOfOneMachine self.old machine.now.state }
         ensures { self.new ≡ machine.now.state }
     {
-        machine.keep(&mut self.kept);
+        machine.save_to(&mut self.saved);
         self.steps = 0;
     }
 
@@ -69,7 +69,7 @@ impl<L: Exceptions, U: SysTickState> Position<L, U> {
         requires { AreOfOneMachine machine.old.state self.now }
         ensures { machine.new ≡ record machine.old { state = self.now } }
     {
-        machine.take_back(&self.kept);
+        machine.restore(&self.saved);
         make_steps(machine, u64::from(self.steps));
     }
 }

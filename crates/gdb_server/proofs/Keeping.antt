@@ -7,7 +7,7 @@ use Rattle.debugger_commands.specs.declared.commands.LineError.{LineError}
 use Rattle.gdb.specs.declared.returns.Return.{Return}
 use Rattle.gdb.specs.declared.returns.Return.TheVariants as returning
 use Rattle.gdb.specs.declared.returns.Search.{Search}
-use Rattle.gdb.specs.declared.searches.Quest.{Quest}
+use Rattle.gdb.specs.declared.searches.SearchScope.{SearchScope}
 use Rattle.gdb.specs.declared.turns.Run.{Run}
 use Rattle.gdb.specs.declared.turns.Turn.{Turn}
 use Rattle.gdb.specs.declared.turns.Turn.TheVariants.{Asks, Ends}
@@ -60,7 +60,7 @@ return_keeps : (k : Session) (r : Return) → (with_return k r).past.start ≡ k
 return_keeps k (returning.Asks search) = refl
 return_keeps k (returning.Ends signal) = refl
 
-place_keeps : (k : Session) (q : Quest) (low : ℕ) (s : State) (o : Option Place)
+place_keeps : (k : Session) (q : SearchScope) (low : ℕ) (s : State) (o : Option Place)
     → (returned_to k.settings k.points k.features k.past q low s o).past.start ≡ k.past.start
 place_keeps k q low s None = refl
 place_keeps k q low s (Some place) = refl
@@ -68,11 +68,11 @@ place_keeps k q low s (Some place) = refl
 back_keeps : (k : Session) (s : State) (search : Search)
     → (return k.settings k.points k.features k.past search s).past.start ≡ k.past.start
 back_keeps k s search =
-    let low = low_of k.features search.quest.end in
-    let found = place_back search.quest k.points k.settings low s k.past.marks in
+    let low = low_of k.features search.scope.end in
+    let found = place_back search.scope k.points k.settings low s k.past.marks in
     cond_both search.is_interrupted (returned_at k.settings k.points k.features k.past Interrupted [] s)
-    (returned_to k.settings k.points k.features k.past search.quest low s found)
-    (λ (r : Returned). r.past.start ≡ k.past.start) (λ e. refl) (λ e. place_keeps k search.quest low s found)
+    (returned_to k.settings k.points k.features k.past search.scope low s found)
+    (λ (r : Returned). r.past.start ≡ k.past.start) (λ e. refl) (λ e. place_keeps k search.scope low s found)
 
 searched_keeps : (k : Session) (s : State) (search : Search) → Keeps k (searched k s search)
 searched_keeps k s search =

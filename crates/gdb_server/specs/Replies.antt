@@ -21,12 +21,12 @@ use Rattle.gdb_texts.specs.declared.stops.Signal.{Signal}
 use Rattle.gdb_texts.specs.declared.threads.Activity.{Activity}
 use Rattle.gdb_texts.specs.declared.threads.Activity.TheVariants as activity
 use Rattle.instruction_set.specs.Registers.{is_privileged}
-use Rattle.machine.specs.Foresight.{next_kind_of}
+use Rattle.machine.specs.NextStep.{next_kind_of}
 use Rattle.platform.specs.Boards.{Numbers}
 use Rattle.platform.specs.declared.stop.Stop.{Stop}
 use Rattle.reference.specs.State.{State}
-use Rattle.task_laws.specs.declared.foresight.StepKind.{StepKind}
-use Rattle.task_laws.specs.declared.foresight.StepKind.TheVariants as kind
+use Rattle.task_laws.specs.declared.next_step.StepKind.{StepKind}
+use Rattle.task_laws.specs.declared.next_step.StepKind.TheVariants as kind
 
 -- ---- replies that are always the same
 

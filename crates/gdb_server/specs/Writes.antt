@@ -15,7 +15,7 @@ use Rattle.platform.specs.declared.error.PlaceError.{PlaceError}
 use Rattle.platform.specs.declared.error.PlaceError.TheVariants.{NotAligned, NoSuchPlace, Stopped}
 use Rattle.reference.specs.declared.place.Place.TheVariants.{Word}
 use Rattle.reference.specs.Places.{altered}
-use Rattle.reference.specs.Shown.{byte_shown}
+use Rattle.reference.specs.Peek.{peek_memory_or_device}
 use Rattle.reference.specs.State.{Bus, State}
 
 -- the state after a write, and why it was refused, if it was
@@ -103,7 +103,7 @@ block_written s a bytes = if is_some s.stop then refused s Stopped else done (wi
 
 -- whether a device has the address: a byte is there that isn't one of memory
 abbrev pub is_of_device : Bus → ℕ → Bool
-is_of_device b a = not (is_some (byte_at b.memory a)) && is_some (byte_shown b a)
+is_of_device b a = not (is_some (byte_at b.memory a)) && is_some (peek_memory_or_device b a)
 
 abbrev pub word_of : List ℕ → ℕ
 word_of bytes =

@@ -3,7 +3,7 @@
 ghost use Rattle.std.specs.Prelude.{◌≡◌, ◌≤◌, IfOk, OnOk, Some, false, length};
 ghost use Rattle.gdb_packets.specs.Replies.{packet_of};
 ghost use Rattle.gdb_past.specs.Places.{AreOfOneMachine};
-ghost use Rattle.gdb_packets.specs.Seen.{seen_packet};
+ghost use Rattle.gdb_packets.specs.Views.{packet_view};
 ghost use Rattle.gdb_server.specs.Commands.{command_of, placed_by, settings_with};
 ghost use Rattle.gdb_server.specs.Conduct.{acknowledgement, answered, begun, commanded, gone_on, event_answered};
 ghost use Rattle.gdb_server.specs.Conduct.{interrupted, long_answered, packet_answered, past_after, past_by};
@@ -26,7 +26,7 @@ use crate::writes::{write, writes};
 use debugger_commands::LineError;
 use devices::{Device, MAX_DEVICES};
 use gdb::{
-    Points, Return, Run, Search, SentPacket, Terms, Turn, first_search, go_back, run_turn,
+    Points, Return, Run, RunContext, Search, SentPacket, Turn, first_search, go_back, run_turn,
     send_packet,
 };
 use gdb_packets::{Event, Packet, read_packet};
@@ -452,7 +452,7 @@ impl<L: Exceptions, U: SysTickState> Session<L, U> {
         ensures kept { OnOk result (self.new ≡ (resumed self.old machine.old.state run).session) }
         ensures same { AreOfOneMachine machine.old.state machine.new.state }
     {
-        let terms = Terms {
+        let context = RunContext {
             points: &self.points,
             settings: self.settings,
             features: self.features,
@@ -460,7 +460,7 @@ impl<L: Exceptions, U: SysTickState> Session<L, U> {
         };
         match run_turn(
             run,
-            &terms,
+            &context,
             &mut self.position,
             &mut self.sent,
             machine,
@@ -500,7 +500,7 @@ impl<L: Exceptions, U: SysTickState> Session<L, U> {
         ensures kept { OnOk result (self.new ≡ (searched self.old machine.old.state search).session) }
         ensures same { AreOfOneMachine machine.old.state machine.new.state }
     {
-        let terms = Terms {
+        let context = RunContext {
             points: &self.points,
             settings: self.settings,
             features: self.features,
@@ -508,7 +508,7 @@ impl<L: Exceptions, U: SysTickState> Session<L, U> {
         };
         match go_back(
             search,
-            &terms,
+            &context,
             &mut self.past,
             &mut self.position,
             &mut self.sent,
@@ -613,10 +613,10 @@ impl<L: Exceptions, U: SysTickState> Session<L, U> {
     ) -> Result<(), IoError>
         requires { AreOfOneMachine self.old.past.start machine.old.state }
         ensures delivers { Delivers
-            (reply_answered self.old machine.old.state waiting (seen_packet packet.entry)).pieces machine.old
+            (reply_answered self.old machine.old.state waiting (packet_view packet.entry)).pieces machine.old
             machine.new (W.writing out.old) (W.writing out.new) result }
         ensures kept { OnOk result
-            (self.new ≡ (reply_answered self.old machine.old.state waiting (seen_packet packet.entry)).session) }
+            (self.new ≡ (reply_answered self.old machine.old.state waiting (packet_view packet.entry)).session) }
         ensures same { AreOfOneMachine machine.old.state machine.new.state }
     {
         if is_file_reply(packet.request) {
@@ -635,11 +635,11 @@ impl<L: Exceptions, U: SysTickState> Session<L, U> {
         out: &mut W,
     ) -> Result<(), IoError>
         requires { AreOfOneMachine self.old.past.start machine.old.state }
-        ensures delivers { Delivers (packet_answered self.old machine.old.state (seen_packet packet.entry)).pieces
+        ensures delivers { Delivers (packet_answered self.old machine.old.state (packet_view packet.entry)).pieces
             machine.old
             machine.new (W.writing out.old) (W.writing out.new) result }
         ensures kept { OnOk result
-            (self.new ≡ (packet_answered self.old machine.old.state (seen_packet packet.entry)).session) }
+            (self.new ≡ (packet_answered self.old machine.old.state (packet_view packet.entry)).session) }
         ensures same { AreOfOneMachine machine.old.state machine.new.state }
     {
         match self.waiting() {

@@ -190,7 +190,7 @@ fn is_of_device<D: Decider, C: KeptCode, L: Exceptions, U: SysTickState>(
 ) -> bool
     ensures { result ≡ is_of_device machine.now.state.bus address }
 {
-    machine.byte(address).is_none() && machine.shown(address).is_some()
+    machine.byte(address).is_none() && machine.peek_memory_or_device(address).is_some()
 }
 
 /// Writes bytes that aren't in flash or RAM: a word of the Private Peripheral Bus or of a device.

@@ -32,7 +32,7 @@ why_text (Some error) = refusal_text error
 
 -- what a rule means
 abbrev pub rule_words : Rule → List ℕ
-rule_words rule.NeverExecute = codes "no code is fetched from e0000000 on"
+rule_words rule.ExecuteNever = codes "no code is fetched from e0000000 on"
 rule_words rule.VectorRead = codes "vectors are read without asking the MPU"
 rule_words rule.PrivatePeripheralBus = codes "the Private Peripheral Bus is for privileged code"
 rule_words rule.MpuOff = codes "the MPU is off, so the default memory map decides"

@@ -71,7 +71,7 @@ fn put_rule_words(page: &mut Page<128>, rule: Rule)
     ensures short { length page.new ≤ length page.old + 112 }
 {
     match rule {
-        Rule::NeverExecute => page.put(b"no code is fetched from e0000000 on"),
+        Rule::ExecuteNever => page.put(b"no code is fetched from e0000000 on"),
         Rule::VectorRead => page.put(b"vectors are read without asking the MPU"),
         Rule::PrivatePeripheralBus => page.put(
             b"the Private Peripheral Bus is for privileged code",

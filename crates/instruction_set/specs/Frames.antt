@@ -2,7 +2,7 @@
 -- ExceptionTaken() and PopStack(), without floating point; CCR.STKALIGN is 1).
 use Rattle.std.specs.Prelude.{ℕ, ◌+◌, ◌-◌, ◌*◌, ◌/◌, ◌%◌, ◌^◌, Bool, false, ◌==◌, ◌||◌, if◌then◌else◌, List, [], ◌∷◌}
 use Rattle.std.specs.Prelude.{slice_index, slice_set, None, bit_or}
-use Rattle.instruction_set.specs.Registers.{Registers, is_handler, sp, with_sp, with_exchange, xpsr, weighed, flags_of}
+use Rattle.instruction_set.specs.Registers.{Registers, is_handler, sp, with_sp, with_exchange, xpsr, mask_if, flags_of}
 use Rattle.instruction_set.specs.Words.{low_word, word_sum, is_bit}
 
 -- ---- EXC_RETURN
@@ -34,7 +34,7 @@ frame_base sp = word_sum sp (2 ^ 32 - 0x20) / 8 * 8
 
 -- xPSR as it is pushed: bit 9 says whether bit 2 of SP was set
 abbrev pub pushed_xpsr : Registers → ℕ
-pushed_xpsr r = xpsr r + weighed (is_bit (sp r) 2) (2 ^ 9)
+pushed_xpsr r = xpsr r + mask_if (is_bit (sp r) 2) (2 ^ 9)
 
 -- the words of the frame, from its address upward
 unfoldable pub frame : Registers → List ℕ

@@ -84,14 +84,14 @@ abbrev pub with_result : Flags → ℕ → Flags
 with_result f v = record f { negative = is_bit v 31; zero = v == 0 }
 
 -- the weight where the bit is set, and 0 otherwise
-abbrev pub weighed : Bool → ℕ → ℕ
-weighed b weight = if b then weight else 0
+abbrev pub mask_if : Bool → ℕ → ℕ
+mask_if b weight = if b then weight else 0
 
 -- APSR: N, Z, C, V and Q in bits 31:27
 abbrev pub apsr : Flags → ℕ
 apsr f =
-    weighed f.negative (2 ^ 31) + weighed f.zero (2 ^ 30) + weighed f.carry (2 ^ 29) + weighed f.overflow (2 ^ 28)
-    + weighed f.saturated (2 ^ 27)
+    mask_if f.negative (2 ^ 31) + mask_if f.zero (2 ^ 30) + mask_if f.carry (2 ^ 29) + mask_if f.overflow (2 ^ 28)
+    + mask_if f.saturated (2 ^ 27)
 
 -- the flags in bits 31:27 of a word
 abbrev pub flags_of : ℕ → Flags
@@ -105,11 +105,11 @@ flags_of v = record {
 
 -- xPSR: APSR, IT[1:0], T, IT[7:2] and the exception's number
 abbrev pub xpsr : Registers → ℕ
-xpsr r = apsr r.flags + r.it_state % 4 * 2 ^ 25 + weighed r.thumb (2 ^ 24) + r.it_state / 4 * 2 ^ 10 + r.exception
+xpsr r = apsr r.flags + r.it_state % 4 * 2 ^ 25 + mask_if r.thumb (2 ^ 24) + r.it_state / 4 * 2 ^ 10 + r.exception
 
 -- CONTROL: nPRIV and SPSEL
 abbrev pub control : Registers → ℕ
-control r = weighed r.unprivileged 1 + weighed r.process_stack 2
+control r = mask_if r.unprivileged 1 + mask_if r.process_stack 2
 
 -- CONTROL.nPRIV, and in Thread mode CONTROL.SPSEL
 abbrev pub control_written : Registers → ℕ → Registers

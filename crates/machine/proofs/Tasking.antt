@@ -14,7 +14,7 @@ use Rattle.reference.specs.State.{State}
 use Rattle.reference.specs.Step.{step}
 use Rattle.platform.specs.Events.{lines}
 use Rattle.task_laws.specs.declared.task.TaskEnd.TheVariants as task_end
-use Rattle.task_laws.specs.Foresight.{is_instruction_next}
+use Rattle.task_laws.specs.NextStep.{is_instruction_next}
 use Rattle.task_laws.specs.Tasks.{AreInstructions, EndsTask}
 use Rattle.trace.specs.Selection.{steps_text}
 

@@ -1,8 +1,8 @@
-pub use Rattle.task_laws.specs.Foresight
+pub use Rattle.task_laws.specs.NextStep
 pub use Rattle.trace.specs.Selection
-pub use Rattle.access.specs.Seen as WordsSeen
+pub use Rattle.access.specs.Peek as PeekedWords
 pub mod Runs
-pub mod Seen
+pub mod Peek
 pub mod Selected
 pub mod Starts
 pub mod TaskRunLaw

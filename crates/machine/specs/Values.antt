@@ -1,5 +1,5 @@
 -- The values of the registers, as a debugger shows them, and what the core runs.
-use Rattle.instruction_set.specs.Registers.{Registers, xpsr, control, weighed, is_privileged}
+use Rattle.instruction_set.specs.Registers.{Registers, xpsr, control, mask_if, is_privileged}
 use Rattle.machine.specs.declared.readers.Execution.{Execution}
 use Rattle.machine.specs.declared.readers.RegValues.{RegValues}
 use Rattle.platform.specs.declared.exception.Masks.{Masks}
@@ -14,8 +14,8 @@ values_of r m = record {
   pc = r.pc;
   xpsr = xpsr r;
   control = control r;
-  primask = weighed m.primask 1;
-  faultmask = weighed m.faultmask 1;
+  primask = mask_if m.primask 1;
+  faultmask = mask_if m.faultmask 1;
   basepri = m.basepri;
 }
 

@@ -2,17 +2,17 @@
 #![tactic(auto)]
 
 mod at_once;
-pub mod foresight;
-mod keeping;
 pub mod laws;
 mod lists;
 mod machine;
+pub mod next_step;
+mod peeking;
 mod permit;
 mod placing;
 mod quick;
 pub mod readers;
 mod run;
-mod seeing;
+mod saving;
 mod start;
 mod stepping;
 mod task;
@@ -24,10 +24,9 @@ pub use access::{
 pub use board::{Board, InterruptNumber, ScriptedEvent, Signal};
 pub use decode::DecodeEachTime;
 pub use decode_table::BoardDecodeTable;
-pub use foresight::is_instruction;
-pub use keeping::Kept;
 pub use machine::{Fast, Machine, RunError, Slow};
 pub use mpu_table::{KeptDecisions, Table};
+pub use next_step::is_instruction;
 pub use nvic_levels::{BitLevels, KeptPriorities};
 pub use output::{Buffered, Cut, In, IoError, LineRoom, Out, Over, Paged};
 pub use platform::access::{Decision, Kind, Rule};
@@ -39,6 +38,7 @@ pub use platform::stop::Stop;
 pub use platform::system::StatusRegister;
 pub use readers::{Execution, RegValues};
 pub use reference::place::Place;
+pub use saving::SavedState;
 pub use task::end_of_task;
 pub use task_laws::{StepKind, TaskEnd};
 pub use trace::lines::{LinePage, event_line, stop_line};

@@ -3,14 +3,14 @@
 ghost use Rattle.std.specs.Prelude.{◌≡◌, [], length, ◌↔◌, ◌≤◌, false, true, Ok, Err, IfOk, IfErr, OnOk};
 ghost use Rattle.board.specs.Reading.{described};
 ghost use Rattle.machine.specs.Runs.{Fails};
-ghost use Rattle.reference.specs.Shown.{byte_shown};
+ghost use Rattle.reference.specs.Peek.{peek_memory_or_device};
 ghost use Rattle.machine.specs.Selected.{SelectedFails};
 ghost use Rattle.machine.specs.Starts.{Starts, Places};
 ghost use Rattle.machine.specs.Tasks.{CountsErrors, TaskEnds, TaskFails};
 ghost use Rattle.platform.specs.Memory.{byte_at, is_in_memory};
 ghost use Rattle.reference.specs.Places.{altered, place, signalled};
 ghost use Rattle.platform.specs.Priorities.{is_below_zero, is_in};
-ghost use Rattle.platform.specs.Regions.{shown};
+ghost use Rattle.platform.specs.Regions.{region_registers};
 ghost use Rattle.platform.specs.Rules.{decision_of};
 ghost use Rattle.reference.specs.Run.{after, ending_of, trace};
 ghost use Rattle.reference.specs.Start.{start};
@@ -19,14 +19,14 @@ ghost use Rattle.step_laws.specs.SizeLaw.{AreOfOneBoard};
 ghost use Rattle.output.specs.Output.{Put, WritesAll};
 ghost use Rattle.reference.specs.Step.{step};
 ghost use Rattle.platform.specs.Events.{lines};
-ghost use Rattle.task_laws.specs.Foresight.{next_kind_of};
+ghost use Rattle.task_laws.specs.NextStep.{next_kind_of};
 ghost use Rattle.task_laws.specs.Tasks.{is_task};
 ghost use Rattle.trace.specs.Emission.{with_emitted};
 ghost use Rattle.trace.specs.Selection.{selected_trace};
 
-use crate::keeping::Kept;
 use crate::readers::{Execution, RegValues};
 use crate::run::{run_core, write_step};
+use crate::saving::SavedState;
 use crate::start::start_core;
 use crate::stepping::Processor;
 use crate::task::run_task_core;
@@ -98,7 +98,7 @@ impl<D: Decider, C: KeptCode, L: Exceptions, U: SysTickState> Model for Machine<
 }
 
 impl<D: Decider, C: KeptCode, L: Exceptions, U: SysTickState> Machine<D, C, L, U> {
-    ghost use Rattle.machine.specs.Seen.{seen_at};
+    ghost use Rattle.machine.specs.Peek.{peek_byte};
     ghost use Rattle.machine.specs.Values.{execution_of, values_of};
 
     /// Makes the machine of a board, with an image in its memory, before the first step.
@@ -127,7 +127,7 @@ impl<D: Decider, C: KeptCode, L: Exceptions, U: SysTickState> Machine<D, C, L, U
 
     /// Makes a step. `events`, which has taken no event yet, takes its events.
     #[inline]
-    pub fn step_into<S: Sink>(&mut self, events: &mut S)
+    pub fn step_with_sink<S: Sink>(&mut self, events: &mut S)
         requires { (S.emitted events.old).events ≡ [] }
         ensures state { self.new ≡ record self.old { state = (step self.old.state).state } }
         ensures events { S.emitted events.new ≡ with_emitted (S.emitted events.old) ((step self.old.state).events) }
@@ -293,27 +293,27 @@ impl<D: Decider, C: KeptCode, L: Exceptions, U: SysTickState> Machine<D, C, L, U
     }
 
     /// Returns a copy of the state, or fails where memory can't be allocated.
-    pub fn copied(&self, alloc: Global) -> Result<Kept<L, U>, AllocError>
-        ensures { IfOk result (λ kept. kept ≡ self.now.state) }
+    pub fn save(&self, alloc: Global) -> Result<SavedState<L, U>, AllocError>
+        ensures { IfOk result (λ saved. saved ≡ self.now.state) }
     {
-        self.core.copied(alloc)
+        self.core.save(alloc)
     }
 
-    /// Copies the state. `kept` is a copy of an earlier state of this machine, or of a machine of the same board.
-    pub fn keep(&self, kept: &mut Kept<L, U>)
-        requires { AreOfOneBoard kept.old.bus self.now.state.bus }
-        ensures { kept.new ≡ self.now.state }
+    /// Saves the state. `saved` is a copy of an earlier state of this machine, or of a machine of the same board.
+    pub fn save_to(&self, saved: &mut SavedState<L, U>)
+        requires { AreOfOneBoard saved.old.bus self.now.state.bus }
+        ensures { saved.new ≡ self.now.state }
     {
-        self.core.keep(kept);
+        self.core.save_to(saved);
     }
 
-    /// Goes back to a state that was kept. Decoded instructions stay kept where the bytes of memory are the same. A
+    /// Goes back to a saved state. Decoded instructions stay kept where the bytes of memory are the same. A
     /// machine whose writer failed stays broken.
-    pub fn take_back(&mut self, kept: &Kept<L, U>)
-        requires { AreOfOneBoard self.old.state.bus kept.now.bus }
-        ensures { self.new ≡ record self.old { state = kept.now } }
+    pub fn restore(&mut self, saved: &SavedState<L, U>)
+        requires { AreOfOneBoard self.old.state.bus saved.now.bus }
+        ensures { self.new ≡ record self.old { state = saved.now } }
     {
-        self.core.take_back(kept);
+        self.core.restore(saved);
     }
 
     /// Returns why the machine has stopped, if it has.
@@ -370,19 +370,19 @@ impl<D: Decider, C: KeptCode, L: Exceptions, U: SysTickState> Machine<D, C, L, U
 
     /// Returns the byte at an address that memory or the word of a device has, if one does. Nothing changes: no load
     /// pokes.
-    pub fn shown(&self, address: u32) -> Option<u8>
-        ensures { result ≡ byte_shown self.now.state.bus address }
+    pub fn peek_memory_or_device(&self, address: u32) -> Option<u8>
+        ensures { result ≡ peek_memory_or_device self.now.state.bus address }
     {
-        self.core.shown(address)
+        self.core.peek_memory_or_device(address)
     }
 
     /// Returns the byte at an address as a debugger sees it: that of the word that a load by privileged code would
     /// return there now, and None where the bus would refuse that load. The MPU isn't asked, and nothing changes:
     /// COUNTFLAG stays, and no tick is made.
-    pub fn seen(&self, address: u32) -> Option<u8>
-        ensures { result ≡ seen_at self.now.state address }
+    pub fn peek_byte(&self, address: u32) -> Option<u8>
+        ensures { result ≡ peek_byte self.now.state address }
     {
-        self.core.seen(address)
+        self.core.peek_byte(address)
     }
 
     /// Returns the registers of the MPU.
@@ -396,7 +396,7 @@ impl<D: Decider, C: KeptCode, L: Exceptions, U: SysTickState> Machine<D, C, L, U
     /// Returns RBAR (with VALID 0 and REGION `number`) and RASR of a region, if there is one of that
     /// number.
     pub fn region(&self, number: u8) -> Option<(u32, u32)>
-        ensures { result ≡ shown self.now.state.bus.system.mpu number }
+        ensures { result ≡ region_registers self.now.state.bus.system.mpu number }
     {
         self.core.region(number)
     }

@@ -88,7 +88,7 @@ impl<D: Decider, C: KeptCode, L: Exceptions, U: SysTickState> Processor<D, C, L,
             Place::Word(address, _) => {
                 self.bus().space().is_in_memory(address, 4)
                     || is_in_ppb(address)
-                    || self.bus().system.has_device(address)
+                    || self.bus().system.has_device_at(address)
             }
         }
     }
@@ -115,7 +115,7 @@ impl<D: Decider, C: KeptCode, L: Exceptions, U: SysTickState> Processor<D, C, L,
                 self.bus().system.is_free(interrupt.number())
             }
             Signal::Nmi => true,
-            Signal::Poke(poke) => self.bus().system.has_device(poke.address),
+            Signal::Poke(poke) => self.bus().system.has_device_at(poke.address),
         }
     }
 

@@ -4,9 +4,9 @@ ghost use Rattle.std.specs.Prelude.{◌≡◌};
 ghost use Rattle.devices.specs.Devices.{read_at};
 ghost use Rattle.instruction_set.specs.declared.size.Size.TheVariants.{Byte};
 ghost use Rattle.platform.specs.Memory.{byte_at, is_in_memory};
-ghost use Rattle.reference.specs.Shown.{byte_shown};
+ghost use Rattle.reference.specs.Peek.{peek_memory_or_device};
 ghost use Rattle.platform.specs.Priorities.{is_below_zero, is_in};
-ghost use Rattle.platform.specs.Regions.{shown};
+ghost use Rattle.platform.specs.Regions.{region_registers};
 ghost use Rattle.platform.specs.Status.{read_status};
 
 use crate::stepping::Processor;
@@ -98,8 +98,8 @@ impl<D: Decider, C: KeptCode, L: Exceptions, U: SysTickState> Processor<D, C, L,
 
     /// Returns the byte at an address that memory or the word of a device has, if one does. Nothing changes: no load
     /// pokes.
-    pub fn shown(&self, address: u32) -> Option<u8>
-        ensures { result ≡ byte_shown self.now.bus address }
+    pub fn peek_memory_or_device(&self, address: u32) -> Option<u8>
+        ensures { result ≡ peek_memory_or_device self.now.bus address }
     {
         match self.byte(address) {
             Some(byte) => Some(byte),
@@ -111,7 +111,7 @@ impl<D: Decider, C: KeptCode, L: Exceptions, U: SysTickState> Processor<D, C, L,
     fn device_byte(&self, address: u32) -> Option<u8>
         ensures { result ≡ read_at self.now.bus.system.devices self.now.bus.system.time.ticks address Byte }
     {
-        match self.bus().system.look_at_device(address, Size::Byte) {
+        match self.bus().system.peek_device(address, Size::Byte) {
             Some(value) => Some(value as u8),
             None => None,
         }
@@ -127,7 +127,7 @@ impl<D: Decider, C: KeptCode, L: Exceptions, U: SysTickState> Processor<D, C, L,
 
     /// RBAR and RASR of a region, if there is one of that number.
     pub fn region(&self, number: u8) -> Option<(u32, u32)>
-        ensures { result ≡ shown self.now.bus.system.mpu number }
+        ensures { result ≡ region_registers self.now.bus.system.mpu number }
     {
         self.bus().system.region(number)
     }

@@ -4,7 +4,7 @@ ghost use Rattle.std.specs.Prelude.{◌≡◌, ◌+◌, IfOk, IfErr, OnOk};
 ghost use Rattle.machine.specs.Tasks.{TaskIsCut, TaskRuns, end_of};
 ghost use Rattle.task_laws.specs.Tasks.{is_task};
 
-use crate::foresight::is_instruction;
+use crate::next_step::is_instruction;
 use crate::run::write_step;
 use crate::stepping::Processor;
 use access::{Decider, Exceptions, KeptCode, SysTickState};

@@ -2,7 +2,7 @@
 //! commands on standard input.
 #![tactic(auto)]
 
-use command::{program, refuse_words, words};
+use command::{program, refuse_args, words};
 use std::io;
 use std::process::ExitCode;
 
@@ -10,7 +10,7 @@ fn main(rt: HostRuntime) -> ExitCode {
     let mut err = rt.stderr();
     let status = match words(&rt) {
         Ok(words) => program(&rt, words.as_slice(), rt.stdin(), io::writer(&rt), &mut err),
-        Err(error) => refuse_words(&error, &mut err),
+        Err(error) => refuse_args(&error, &mut err),
     };
     ExitCode::from(status)
 }

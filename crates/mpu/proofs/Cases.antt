@@ -4,13 +4,13 @@ use Rattle.std.proofs.Common.{Option, Some, None, arith, refl, sym, ap, ◌∙�
 use Rattle.std.proofs.lemmas.Bool.{cases_lt, eqb-true, eq-eqb, both_ways}
 use Rattle.platform.specs.declared.access.Decision.{Decision}
 use Rattle.platform.specs.declared.access.Rule.{Rule}
-use Rattle.platform.specs.declared.access.Rule.TheVariants.{NeverExecute, VectorRead, PrivatePeripheralBus, MpuOff}
+use Rattle.platform.specs.declared.access.Rule.TheVariants.{ExecuteNever, VectorRead, PrivatePeripheralBus, MpuOff}
 use Rattle.platform.specs.declared.access.Rule.TheVariants.{NegativePriority, Region, Background, NoRegion}
 use Rattle.platform.specs.Kinds.{is_vector}
 use Rattle.platform.specs.Regions.{Mpu, owner, is_on, IsOwner}
 use Rattle.platform.specs.Rules.{default_map, AccessQuery, Fits, IsFirstFit, rank, rule_grants, before_regions}
 use Rattle.platform.specs.Rules.{by_owner}
-use Rattle.platform.specs.Rules.{first_of_two, decision_of, is_never_executed, is_ppb_data, is_off_below_zero}
+use Rattle.platform.specs.Rules.{first_of_two, decision_of, is_fetch_from_system, is_ppb_data, is_off_below_zero}
 use Rattle.platform.specs.Rules.{is_background}
 use Rattle.mpu.proofs.Belonging.{only_owner, owner_is}
 
@@ -19,7 +19,7 @@ use Rattle.mpu.proofs.Belonging.{only_owner, owner_is}
 -- the rule of a rank that only one rule has
 rule_at : ℕ → Rule
 rule_at n =
-    if n == 0 then NeverExecute
+    if n == 0 then ExecuteNever
     else if n == 1 then VectorRead
     else if n == 2 then PrivatePeripheralBus
     else if n == 3 then MpuOff
@@ -29,7 +29,7 @@ rule_at n =
 
 rule_of_rank : (r : Rule) → (rank r ≡ 5 → ⊥) → rule_at (rank r) ≡ r
 unfolding rule_at
-rule_of_rank NeverExecute _ = refl
+rule_of_rank ExecuteNever _ = refl
 rule_of_rank VectorRead _ = refl
 rule_of_rank PrivatePeripheralBus _ = refl
 rule_of_rank MpuOff _ = refl
@@ -42,7 +42,7 @@ same_rule : (r s : Rule) → rank r ≡ rank s → (rank s ≡ 5 → ⊥) → r 
 same_rule r s e h = sym (rule_of_rank r (λ f. h (sym e ∙ f))) ∙ ap rule_at e ∙ rule_of_rank s h
 
 number_of : (r : Rule) → rank r ≡ 5 → (k : ℕ) × (r ≡ Region k)
-number_of NeverExecute h = absurd (let wrong : ⊥ = omega arith in wrong)
+number_of ExecuteNever h = absurd (let wrong : ⊥ = omega arith in wrong)
 number_of VectorRead h = absurd (let wrong : ⊥ = omega arith in wrong)
 number_of PrivatePeripheralBus h = absurd (let wrong : ⊥ = omega arith in wrong)
 number_of MpuOff h = absurd (let wrong : ⊥ = omega arith in wrong)
@@ -100,7 +100,7 @@ at_regions m q None missed owns =
 -- the first of the tests before the regions that holds
 abbrev before : AccessQuery → Bool → Bool → Bool → Bool → Bool → Option Decision
 before q xn vec ppb on neg =
-    if xn then Some (record { rule = NeverExecute; granted = false })
+    if xn then Some (record { rule = ExecuteNever; granted = false })
     else if vec then Some (record { rule = VectorRead; granted = true })
     else if ppb then Some (record { rule = PrivatePeripheralBus; granted = true })
     else if not on then Some (record { rule = MpuOff; granted = default_map q.address q.kind })
@@ -109,7 +109,7 @@ before q xn vec ppb on neg =
 
 -- what the tests find
 record Tests (m : Mpu) (q : AccessQuery) (xn vec ppb on neg : Bool) : Type 0 where
-  xn_is : is_never_executed q.address q.kind ≡ xn
+  xn_is : is_fetch_from_system q.address q.kind ≡ xn
   vec_is : is_vector q.kind ≡ vec
   ppb_is : is_ppb_data q.address q.kind ≡ ppb
   on_is : is_on m.control ≡ on
@@ -120,25 +120,25 @@ fit : (m : Mpu) (q : AccessQuery) (xn vec ppb on neg : Bool) (o : Option ℕ) �
     → IsFirstFit m q (first_of_two (before q xn vec ppb on neg) (by_owner m q.kind q.address q.privileged o))
 fit m q true vec ppb on neg o t owns = record { fits = t.xn_is; first = nothing_above m q; granted = refl }
 fit m q false true ppb on neg o t owns =
-    let m1 = and_rule m q NeverExecute (λ h. omega arith) (nothing_above m q) (both_ways _ t.xn_is) in
+    let m1 = and_rule m q ExecuteNever (λ h. omega arith) (nothing_above m q) (both_ways _ t.xn_is) in
     record { fits = t.vec_is; first = m1; granted = refl }
 fit m q false false true on neg o t owns =
-    let m1 = and_rule m q NeverExecute (λ h. omega arith) (nothing_above m q) (both_ways _ t.xn_is) in
+    let m1 = and_rule m q ExecuteNever (λ h. omega arith) (nothing_above m q) (both_ways _ t.xn_is) in
     let m2 = and_rule m q VectorRead (λ h. omega arith) m1 (both_ways _ t.vec_is) in
     record { fits = t.ppb_is; first = m2; granted = refl }
 fit m q false false false false neg o t owns =
-    let m1 = and_rule m q NeverExecute (λ h. omega arith) (nothing_above m q) (both_ways _ t.xn_is) in
+    let m1 = and_rule m q ExecuteNever (λ h. omega arith) (nothing_above m q) (both_ways _ t.xn_is) in
     let m2 = and_rule m q VectorRead (λ h. omega arith) m1 (both_ways _ t.vec_is) in
     let m3 = and_rule m q PrivatePeripheralBus (λ h. omega arith) m2 (both_ways _ t.ppb_is) in
     record { fits = t.on_is; first = m3; granted = refl }
 fit m q false false false true true o t owns =
-    let m1 = and_rule m q NeverExecute (λ h. omega arith) (nothing_above m q) (both_ways _ t.xn_is) in
+    let m1 = and_rule m q ExecuteNever (λ h. omega arith) (nothing_above m q) (both_ways _ t.xn_is) in
     let m2 = and_rule m q VectorRead (λ h. omega arith) m1 (both_ways _ t.vec_is) in
     let m3 = and_rule m q PrivatePeripheralBus (λ h. omega arith) m2 (both_ways _ t.ppb_is) in
     let m4 = and_rule m q MpuOff (λ h. omega arith) m3 (λ f. both_ways _ f t.on_is) in
     record { fits = t.neg_is; first = m4; granted = refl }
 fit m q false false false true false o t owns =
-    let m1 = and_rule m q NeverExecute (λ h. omega arith) (nothing_above m q) (both_ways _ t.xn_is) in
+    let m1 = and_rule m q ExecuteNever (λ h. omega arith) (nothing_above m q) (both_ways _ t.xn_is) in
     let m2 = and_rule m q VectorRead (λ h. omega arith) m1 (both_ways _ t.vec_is) in
     let m3 = and_rule m q PrivatePeripheralBus (λ h. omega arith) m2 (both_ways _ t.ppb_is) in
     let m4 = and_rule m q MpuOff (λ h. omega arith) m3 (λ f. both_ways _ f t.on_is) in

@@ -3,7 +3,7 @@
 ghost use Rattle.std.specs.Prelude.{◌≡◌, ◌+◌, ◌%◌, ◌<◌, ◌≤◌, ◌⊎◌, true, IfSome};
 ghost use Rattle.mpu.specs.Spans.{BelongTo};
 ghost use Rattle.platform.specs.Regions as spec;
-ghost use Rattle.platform.specs.Regions.{fresh, read, write, after_write, answered, shown};
+ghost use Rattle.platform.specs.Regions.{fresh, read, write, after_write, answered, region_registers};
 ghost use Rattle.platform.specs.Regions.{with_region_base, with_attributes, selected, write_mpu_ctrl, write_base};
 ghost use Rattle.platform.specs.Regions.{based, write_attributes, is_accepted, owner, mpu_register_at, stop_of};
 
@@ -117,7 +117,7 @@ impl MpuRegs {
     /// Returns RBAR with VALID 0 and REGION this number, and RASR; None where there is no such
     /// region.
     pub fn region(&self, number: u8) -> Option<(u32, u32)>
-        ensures { result ≡ shown self.now number }
+        ensures { result ≡ region_registers self.now number }
     {
         if number >= self.count {
             return None;

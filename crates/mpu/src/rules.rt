@@ -29,7 +29,7 @@ pub fn before_regions(control: u32, address: u32, kind: Kind, below_zero: bool) 
     ensures { result ≡ before_regions control address kind below_zero }
 {
     let (rule, granted) = if kind.is_fetch() && address >= SYSTEM_BASE {
-        (Rule::NeverExecute, false)
+        (Rule::ExecuteNever, false)
     } else if kind.is_vector() {
         (Rule::VectorRead, true)
     } else if !kind.is_fetch() && is_in_ppb(address) {

@@ -8,13 +8,14 @@ use Rattle.std.proofs.Math.Nat.{mul-div_left, zero-div, zero-mul}
 use Rattle.platform.specs.declared.exception.Masks.{Masks}
 use Rattle.platform.specs.declared.exception.TheConstants.{EXCEPTIONS, MAX_INTERRUPTS}
 use Rattle.platform.specs.SystemInvariant.{HasOnly}
-use Rattle.platform.specs.Priorities.{Nvic, is_in_words, is_exception, can_be_disabled, has_priority_byte, kept}
+use Rattle.platform.specs.Priorities.{Nvic, is_in_words, is_exception, can_be_disabled, has_priority_byte}
+use Rattle.platform.specs.Priorities.{implemented_bits}
 use Rattle.platform.specs.Priorities.{with_member}
 use Rattle.platform.specs.Priorities.{with_pending, with_active, with_enabled, with_priority, with_group, with_primask}
 use Rattle.platform.specs.Priorities.{with_faultmask, with_basepri, with_due, reset_nvic}
-use Rattle.nvic.proofs.Changes.{IsKept, pended_kept}
+use Rattle.nvic.proofs.Changes.{IsPreserved, pended_kept}
 use Rattle.nvic.proofs.Due.{due_is_pended}
-use Rattle.nvic.specs.Laws.{AreKept, FitsBoard}
+use Rattle.nvic.specs.Laws.{ArePriorityBytes, FitsBoard}
 
 -- ---- lists
 
@@ -55,19 +56,20 @@ member_set interrupts s x on h =
     (λ e. set_of (is_exception interrupts) s x on e h) (λ e. h)
 
 -- what was kept is kept
-pub kept_again : (bits b : ℕ) → kept bits (kept bits b) ≡ kept bits b
+pub kept_again : (bits b : ℕ) → implemented_bits bits (implemented_bits bits b) ≡ implemented_bits bits b
 kept_again bits b = let d = 2 ^ (8 - bits) in ap (λ q. q * d) (mul-div_left (b / d) {n = d} (pow_pos (8 - bits)))
 
-set_kept : (bits : ℕ) (bytes : List ℕ) (x b : ℕ) → AreKept bits bytes → AreKept bits (slice_set bytes x (kept bits b))
+set_kept : (bits : ℕ) (bytes : List ℕ) (x b : ℕ) → ArePriorityBytes bits bytes
+    → ArePriorityBytes bits (slice_set bytes x (implemented_bits bits b))
 set_kept bits bytes x b h = record {
-  places = length-set bytes x (kept bits b) ∙ h.places;
-  keep = at_each (λ y c. kept bits c ≡ c) bytes x (kept bits b) 0 (kept_again bits b) h.keep;
+  places = length-set bytes x (implemented_bits bits b) ∙ h.places;
+  keep = at_each (λ y c. implemented_bits bits c ≡ c) bytes x (implemented_bits bits b) 0 (kept_again bits b) h.keep;
 }
 
-kept_none : (bits : ℕ) → kept bits 0 ≡ 0
+kept_none : (bits : ℕ) → implemented_bits bits 0 ≡ 0
 kept_none bits = let d = 2 ^ (8 - bits) in ap (λ q. q * d) (zero-div d) ∙ zero-mul d
 
-pub no_bytes : (bits : ℕ) → AreKept bits (replicate EXCEPTIONS 0)
+pub no_bytes : (bits : ℕ) → ArePriorityBytes bits (replicate EXCEPTIONS 0)
 no_bytes bits = record {
   places = length-replicate {A = ℕ} EXCEPTIONS 0;
   keep = λ x. let e : slice_index (replicate EXCEPTIONS 0) x ≡ 0 = same_each EXCEPTIONS 0 x in rw e (kept_none bits);
@@ -87,8 +89,9 @@ with_sets n pending enabled active p e a h = record {
 }
 
 -- other priority bytes, another PRIGROUP and other masks, and the rest as it is
-with_others : (n : Nvic) (bytes : List ℕ) (group : ℕ) (masks : Masks) → AreKept n.priority_bits bytes → group < 8
-    → kept n.priority_bits masks.basepri ≡ masks.basepri → FitsBoard n
+with_others : (n : Nvic) (bytes : List ℕ) (group : ℕ) (masks : Masks) → ArePriorityBytes n.priority_bits bytes
+    → group < 8
+    → implemented_bits n.priority_bits masks.basepri ≡ masks.basepri → FitsBoard n
     → FitsBoard (record n { priorities = bytes; group = group; masks = masks })
 with_others n bytes group masks are small basepri h = record {
   sets = record {
@@ -137,7 +140,7 @@ faultmask_of_board n on h = with_others n n.priorities n.group _ h.priorities h.
 pub basepri_of_board : (n : Nvic) (b : ℕ) → FitsBoard n → FitsBoard (with_basepri n b)
 basepri_of_board n b h = with_others n n.priorities n.group _ h.priorities h.group (kept_again n.priority_bits b) h
 
-pub of_board_kept : IsKept FitsBoard
+pub of_board_kept : IsPreserved FitsBoard
 of_board_kept = record {
   pending = pending_of_board;
   active = active_of_board;

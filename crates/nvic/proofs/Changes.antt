@@ -1,7 +1,7 @@
 -- If eight small changes of the exceptions keep a property, so does each write of a register or mask, each tick, and a
 -- handler that begins.
 --
--- - `IsKept P` has a field for each small change. An instance proves these eight, and has all that follows.
+-- - `IsPreserved P` has a field for each small change. An instance proves these eight, and has all that follows.
 -- - A register of sets changes one bit after another: `one_kept`, `bit_kept`, then all by induction (`bits_kept`).
 -- - A register of control is a few small changes, each under a test: `cond_both` takes both branches.
 -- - A tick makes pending what a test says, one exception after another (`pended_below`), so `MayPend` asks for the
@@ -27,7 +27,8 @@ use Rattle.platform.specs.Priorities.{activated}
 use Rattle.platform.specs.Handlers.{handlers_active, with_handlers_pending, with_handlers_enabled, write_shcsr}
 use Rattle.platform.specs.Interrupts.{first_exception, with_one, with_bit, with_bits_below, write_interrupts}
 use Rattle.platform.specs.Interrupts.{write_priorities, triggered}
-use Rattle.platform.specs.Priorities.{Nvic, execution_priority, hard_fault_priority, kept, with_pending, with_active}
+use Rattle.platform.specs.Priorities.{Nvic, execution_priority, hard_fault_priority, implemented_bits, with_pending}
+use Rattle.platform.specs.Priorities.{with_active}
 use Rattle.platform.specs.Priorities.{with_enabled, with_priority, with_group, with_primask, with_faultmask}
 use Rattle.platform.specs.Priorities.{with_basepri}
 use Rattle.platform.specs.SpecialRegisters.{faultmask_written, is_tighter, basepri_max_written, with_mask, write_mask}
@@ -40,7 +41,7 @@ IfDone P (Ok after) = P after
 IfDone P (Err why) = Unit {0}
 
 -- each small change keeps a property
-pub record IsKept (P : Nvic → Type 0) : Type 0 where
+pub record IsPreserved (P : Nvic → Type 0) : Type 0 where
   pub pending : (n : Nvic) (x : ℕ) (on : Bool) → P n → P (with_pending n x on)
   pub active : (n : Nvic) (x : ℕ) (on : Bool) → P n → P (with_active n x on)
   pub enabled : (n : Nvic) (x : ℕ) (on : Bool) → P n → P (with_enabled n x on)
@@ -52,7 +53,7 @@ pub record IsKept (P : Nvic → Type 0) : Type 0 where
 
 -- ---- what the small changes keep, each write keeps
 
-module _ {P : Nvic → Type 0} (k : IsKept P) where
+module _ {P : Nvic → Type 0} (k : IsPreserved P) where
   -- ---- the interrupts' registers
 
   one_kept : (n : Nvic) (register : InterruptRegister) (x : ℕ) → P n
@@ -158,7 +159,8 @@ module _ {P : Nvic → Type 0} (k : IsKept P) where
       → P (basepri_max_written n byte)
   unfolding basepri_max_written
   basepri_max_kept n byte small p =
-      cond_both (is_tighter n.masks.basepri (kept n.priority_bits byte)) _ _ P (λ e. k.basepri n byte small p) (λ e. p)
+      cond_both (is_tighter n.masks.basepri (implemented_bits n.priority_bits byte)) _ _ P
+      (λ e. k.basepri n byte small p) (λ e. p)
 
   pub mask_kept : (n : Nvic) (special : SpecialRegister) (value : ℕ) → P n
       → P (with_mask n special value)

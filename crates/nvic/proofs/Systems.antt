@@ -1,5 +1,6 @@
 -- If the small changes of the exceptions, the registers of SysTick and those of the MPU keep what holds of the parts of
--- the System Control Space, so do each access, also one to a device, MSR, CPS, each tick, each signal, and the begin and
+-- the System Control Space, so do each access, also one to a device, MSR, CPS, each tick, each signal, and the begin
+-- and
 -- the end of a handler.
 use Rattle.std.proofs.Common.{◌≡◌, ℕ, ◌+◌, ◌*◌, ◌/◌, Bool, true, false, not, ◌||◌, ◌==◌, List, [], ◌∷◌, Result, Ok, Err}
 use Rattle.std.proofs.lemmas.Bool.{cond_both}
@@ -33,13 +34,13 @@ use Rattle.platform.specs.SpecialRegisters.{with_mask, write_mask, change_state}
 use Rattle.platform.specs.Status.{Status, write_status}
 use Rattle.platform.specs.System.{System, write_performed, with_nvic, nvic_written, status_written, mpu_written}
 use Rattle.platform.specs.System.{first_byte, in_place, after_read, register_written, has_access, has_width}
-use Rattle.platform.specs.System.{register_access, system_access, register_at, after_tick, is_held, deactivated}
+use Rattle.platform.specs.System.{register_access, system_access, register_at, after_tick, is_asserted, deactivated}
 use Rattle.platform.specs.System.{after_pokes, after_signal, device_access, on_interrupts, poke_of, pokes_of, settled}
 use Rattle.platform.specs.System.{time_passed, with_devices, with_level, with_levels}
 use Rattle.platform.specs.SysTickRegisters.{after_systick_read, write_systick}
 use Rattle.platform.specs.SystemInvariant.{table_of}
 use Rattle.platform.specs.Time.{Time, events_at, is_high, pends, tick_pends, time_after_tick, with_signal}
-use Rattle.nvic.proofs.Changes.{IsKept, IfDone, interrupts_kept, priorities_kept, control_kept, mask_kept}
+use Rattle.nvic.proofs.Changes.{IsPreserved, IfDone, interrupts_kept, priorities_kept, control_kept, mask_kept}
 use Rattle.nvic.proofs.Changes.{write_mask_kept, state_kept, activated_kept, pended_kept}
 use Rattle.nvic.proofs.Tables.{table_loaded, table_poked_all, table_stored}
 
@@ -58,7 +59,7 @@ pub record HasParts (P : Parts) (s : System) : Type 0 where
 
 -- each change of a part alone keeps what holds of it
 pub record PartsAreKept (P : Parts) : Type 0 where
-  pub nvic : IsKept P.nvic
+  pub nvic : IsPreserved P.nvic
   pub read : (t : Time) (it : SysTickRegister) → P.time t
       → P.time (record t { systick = after_systick_read t.systick it })
   pub written : (t : Time) (it : SysTickRegister) (value : ℕ) → P.time t
@@ -111,7 +112,8 @@ module _ {P : Parts} (k : PartsAreKept P) where
 
   read_kept : (s : System) (it : SystemRegister) → HasParts P s → HasParts P (after_read s it)
   unfolding after_read
-  read_kept s (register.SysTick it) h = record { nvic = h.nvic; time = k.read s.time it h.time; mpu = h.mpu; devices = h.devices }
+  read_kept s (register.SysTick it) h =
+      record { nvic = h.nvic; time = k.read s.time it h.time; mpu = h.mpu; devices = h.devices }
   read_kept s (register.Interrupts it word) h = h
   read_kept s (register.Priorities first) h = h
   read_kept s (register.Control it) h = h
@@ -233,7 +235,7 @@ module _ {P : Parts} (k : PartsAreKept P) where
   unfolding deactivated
   deactivated_kept s x h =
       let idle = k.nvic.active s.nvic x false h.nvic in
-      cond_both (is_held s x) _ _ (HasParts P)
+      cond_both (is_asserted s x) _ _ (HasParts P)
       (λ e. with_nvic_kept s _ (k.nvic.pending (with_active s.nvic x false) x true idle) h)
       (λ e. with_nvic_kept s _ idle h)
 

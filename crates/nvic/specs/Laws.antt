@@ -4,7 +4,7 @@ use Rattle.std.specs.Prelude.{◌≡◌, ℕ, ◌<◌, ◌≤◌, ◌⊎◌, tru
 use Rattle.std.specs.Prelude.{None}
 use Rattle.platform.specs.declared.exception.TheConstants.{EXCEPTIONS}
 use Rattle.platform.specs.SystemInvariant.{HasExceptionsOfBoard}
-use Rattle.platform.specs.Priorities.{Nvic, is_exception, kept, is_in, is_in_words, is_ready, priority_of}
+use Rattle.platform.specs.Priorities.{Nvic, is_exception, implemented_bits, is_in, is_in_words, is_ready, priority_of}
 use Rattle.platform.specs.Priorities.{group_priority, execution_priority, hard_fault_priority, of_byte, grouped}
 use Rattle.platform.specs.Priorities.{lowest}
 
@@ -42,16 +42,16 @@ pub record IsLeast (n : Nvic) (p : ℕ) : Type 0 where
   pub least : (q : ℕ) → LimitsExecution n q → p ≤ q
 
 -- there's a byte for each number, and each has only bits that the board keeps
-pub record AreKept (bits : ℕ) (bytes : List ℕ) : Type 0 where
+pub record ArePriorityBytes (bits : ℕ) (bytes : List ℕ) : Type 0 where
   pub places : length bytes ≡ EXCEPTIONS
-  pub keep : (x : ℕ) → kept bits (slice_index bytes x) ≡ slice_index bytes x
+  pub keep : (x : ℕ) → implemented_bits bits (slice_index bytes x) ≡ slice_index bytes x
 
 -- what is always so: the sets hold exceptions of the board only, and the priority bytes and BASEPRI have only bits that
 -- the board keeps
 pub record FitsBoard (n : Nvic) : Type 0 where
   pub sets : HasExceptionsOfBoard n
-  pub priorities : AreKept n.priority_bits n.priorities
-  pub basepri : kept n.priority_bits n.masks.basepri ≡ n.masks.basepri
+  pub priorities : ArePriorityBytes n.priority_bits n.priorities
+  pub basepri : implemented_bits n.priority_bits n.masks.basepri ≡ n.masks.basepri
   pub group : n.group < 8
 
 -- pending now: what was pending, and the exceptions of the board that are due; nothing else has changed

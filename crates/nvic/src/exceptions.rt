@@ -11,7 +11,7 @@ ghost use Rattle.platform.specs.Priorities.{with_basepri, with_due, with_due_at,
 use crate::numbers::{
     can_be_disabled, has_priority_byte, is_empty, is_exception, is_in_words, is_interrupt,
 };
-use crate::priorities::{boosted, fixed_or, grouped, kept};
+use crate::priorities::{boosted, fixed_or, grouped, implemented_bits};
 use crate::settings::Settings;
 use platform::exception::{EXCEPTIONS, Escalation, HARD_FAULT, Masks, NMI, Priority};
 
@@ -169,7 +169,7 @@ pub trait Exceptions: Drop {
         ensures { content self.new ≡ with_basepri (content self.old) byte }
     {
         let mut masks = self.masks();
-        masks.basepri = kept(self.priority_bits(), byte);
+        masks.basepri = implemented_bits(self.priority_bits(), byte);
         self.set_masks(masks);
     }
 

@@ -13,5 +13,5 @@ pub use exceptions::Exceptions;
 pub use numbers::{can_be_disabled, has_priority_byte, is_always_enabled, is_empty, is_exception};
 pub use plain::PlainExceptions;
 pub use platform::exception::{Escalation, Masks, Priority};
-pub use priorities::{grouped, kept};
+pub use priorities::{grouped, implemented_bits};
 pub use settings::Settings;

@@ -5,7 +5,7 @@ ghost use Rattle.platform.specs.Priorities as spec;
 
 use crate::exceptions::Exceptions;
 use crate::numbers::is_always_enabled;
-use crate::priorities::{fixed_or, kept};
+use crate::priorities::{fixed_or, implemented_bits};
 use crate::settings::Settings;
 use platform::exception::{EXCEPTIONS, Masks, Priority};
 use std::marker::Model;
@@ -75,7 +75,10 @@ impl Exceptions for PlainExceptions {
     }
 
     fn put_priority(&mut self, number: u8, byte: u8) {
-        self.settings.priorities[number as usize] = kept(self.settings.priority_bits, byte);
+        self.settings.priorities[number as usize] = implemented_bits(
+            self.settings.priority_bits,
+            byte,
+        );
     }
 
     fn set_group(&mut self, group: u8) {

@@ -9,10 +9,10 @@ use platform::exception::{HARD_FAULT, Masks, NMI, Priority};
 /// How many bits a priority byte has.
 const BYTE_BITS: u8 = 8;
 
-/// Returns the top bits of a priority byte that a board keeps.
+/// Returns the top bits of a priority byte that a board implements.
 #[inline]
-pub fn kept(priority_bits: u8, byte: u8) -> u8
-    ensures { result ≡ spec.kept priority_bits byte }
+pub fn implemented_bits(priority_bits: u8, byte: u8) -> u8
+    ensures { result ≡ spec.implemented_bits priority_bits byte }
 {
     let dropped = BYTE_BITS.saturating_sub(priority_bits);
     (byte as u16 >> dropped << dropped) as u8

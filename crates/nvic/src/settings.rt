@@ -16,7 +16,7 @@ pub struct Settings {
     pub masks: Masks,
     /// The board's number of interrupts.
     pub interrupts: u8,
-    /// The number of the top bits of a priority byte that the board keeps.
+    /// The number of the top bits of a priority byte that the board implements.
     pub priority_bits: u8,
 }
 

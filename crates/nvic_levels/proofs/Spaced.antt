@@ -5,9 +5,9 @@ use Rattle.std.proofs.Math.Nat.{div-mul-le_self}
 use Rattle.std.proofs.lemmas.Bool.{cases_lt, false_from_ne_true}
 use Rattle.std.proofs.lemmas.Nat.{div_below, le-div, pow-add, shl-shr}
 use Rattle.nvic.proofs.Boards.{at_each, no_bytes}
-use Rattle.nvic_levels.specs.Sets.{level, AreEmpty, AreKeptBytes, AreSpaced, IsFirstOf, IsKept}
+use Rattle.nvic_levels.specs.Sets.{level, AreEmpty, HaveImplementedBits, AreSpaced, IsFirstOf, IsKept}
 use Rattle.platform.specs.declared.exception.TheConstants.{EXCEPTIONS}
-use Rattle.platform.specs.Priorities.{is_in_words, kept}
+use Rattle.platform.specs.Priorities.{is_in_words, implemented_bits}
 
 pub in_range : (place d : ℕ) → place < 256 / 2 ^ d → place * 2 ^ d < 256
 in_range place d h =
@@ -23,16 +23,17 @@ in_range place d h =
     one_more : (a u : ℕ) → (a + 1) * u ≡ a * u + u
     one_more a u = grind arith
 
-pub bytes_none : (bits : ℕ) → AreKeptBytes bits (replicate EXCEPTIONS 0)
+pub bytes_none : (bits : ℕ) → HaveImplementedBits bits (replicate EXCEPTIONS 0)
 bytes_none bits = (no_bytes bits).keep
 
-pub bytes_set : (bits : ℕ) (priorities : List ℕ) (x b : ℕ) → AreKeptBytes bits priorities → kept bits b ≡ b
-    → AreKeptBytes bits (slice_set priorities x b)
-bytes_set bits priorities x b before e = at_each (λ y c. kept bits c ≡ c) priorities x b 0 e before
+pub bytes_set : (bits : ℕ) (priorities : List ℕ) (x b : ℕ) → HaveImplementedBits bits priorities
+    → implemented_bits bits b ≡ b
+    → HaveImplementedBits bits (slice_set priorities x b)
+bytes_set bits priorities x b before e = at_each (λ y c. implemented_bits bits c ≡ c) priorities x b 0 e before
 
 pub spaced : (bits : ℕ) (levels : List (List ℕ)) (held enabled priorities : List ℕ)
     → IsKept levels held enabled priorities
-    → AreKeptBytes bits priorities → AreSpaced bits levels
+    → HaveImplementedBits bits priorities → AreSpaced bits levels
 spaced bits levels held enabled priorities kept bytes p y h t = rw (kept.in_level p y h t).0 at (bytes y)
 
 -- ---- the sets before a place

@@ -3,7 +3,7 @@ use Rattle.std.specs.Prelude.{◌≡◌, ℕ, ◌<◌, Bool, true, false, not, �
 use Rattle.std.specs.Prelude.{slice_index_or, Option, Some, None}
 use Rattle.std.specs.List.{range_with_len}
 use Rattle.platform.specs.declared.exception.TheConstants.{EXCEPTIONS}
-use Rattle.platform.specs.Priorities.{is_always_enabled, is_in_words, is_fixed, kept}
+use Rattle.platform.specs.Priorities.{is_always_enabled, is_in_words, is_fixed, implemented_bits}
 
 -- the exceptions that pass a test, as a set of the reference: a place for each number
 unfoldable pub flags : (ℕ → Bool) → List Bool
@@ -42,9 +42,11 @@ IsFirstLevelled levels (Some x) = (p : ℕ) × AreEmpty levels p × IsFirstOf (l
 IsFirstLevelled levels None = (p : ℕ) (y : ℕ) → y < EXCEPTIONS → is_in_words (level levels p) y ≡ false
 
 -- each priority byte has only bits that the board keeps
-abbrev pub AreKeptBytes : ℕ → List ℕ → Type 0
-AreKeptBytes bits priorities = (x : ℕ) → kept bits (slice_index priorities x) ≡ slice_index priorities x
+abbrev pub HaveImplementedBits : ℕ → List ℕ → Type 0
+HaveImplementedBits bits priorities = (x : ℕ) → implemented_bits bits (slice_index priorities x)
+    ≡ slice_index priorities x
 
 -- an exception is only in the set of a byte that has only bits that the board keeps
 abbrev pub AreSpaced : ℕ → List (List ℕ) → Type 0
-AreSpaced bits levels = (p : ℕ) (y : ℕ) → y < EXCEPTIONS → is_in_words (level levels p) y ≡ true → kept bits p ≡ p
+AreSpaced bits levels = (p : ℕ) (y : ℕ) → y < EXCEPTIONS → is_in_words (level levels p) y ≡ true
+    → implemented_bits bits p ≡ p

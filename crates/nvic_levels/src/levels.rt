@@ -7,7 +7,7 @@ ghost use Rattle.platform.specs.Priorities as spec;
 ghost use Rattle.platform.specs.Priorities.{is_in_words, is_fixed, is_in, is_ready};
 
 use crate::sets::{Set, Sets, all_empty, empty, first_of, has, has_other, put, put_at};
-use nvic::{Exceptions, Settings, is_always_enabled, kept};
+use nvic::{Exceptions, Settings, implemented_bits, is_always_enabled};
 use platform::exception::{EXCEPTIONS, HARD_FAULT, Masks, NMI};
 use std::marker::Model;
 
@@ -26,7 +26,7 @@ pub struct BitLevels {
 
 impl Model for BitLevels {
     ghost use Rattle.std.specs.Prelude.{◌<◌, ◌≤◌};
-    ghost use Rattle.nvic_levels.specs.Sets.{flags, is_waiting, AreKeptBytes, IsKept};
+    ghost use Rattle.nvic_levels.specs.Sets.{flags, is_waiting, HaveImplementedBits, IsKept};
     ghost use Rattle.platform.specs.Priorities.{Nvic, is_in_words};
     ghost use Rattle.platform.specs.declared.exception.TheConstants.{MAX_INTERRUPTS};
 
@@ -45,7 +45,7 @@ impl Model for BitLevels {
 
     ghost invariant = { λ l. (l.settings.group < 8) × (l.settings.interrupts ≤ MAX_INTERRUPTS)
         × IsKept l.levels l.held l.enabled l.settings.priorities
-        × AreKeptBytes l.settings.priority_bits l.settings.priorities };
+        × HaveImplementedBits l.settings.priority_bits l.settings.priorities };
 }
 
 impl BitLevels {
@@ -87,7 +87,7 @@ impl BitLevels {
     /// Changes the priority byte of an exception that isn't pending.
     fn move_idle(&mut self, number: u8, byte: u8)
         requires idle { is_in self.old.pending number ≡ false }
-        requires kept { spec.kept self.old.priority_bits byte ≡ byte }
+        requires kept { spec.implemented_bits self.old.priority_bits byte ≡ byte }
         ensures { self.new ≡ record self.old { priorities = slice_set self.old.priorities number byte } }
     {
         self.settings.priorities[number as usize] = byte;
@@ -160,7 +160,7 @@ impl Exceptions for BitLevels {
     fn put_priority(&mut self, number: u8, byte: u8) {
         let waiting = self.is_pending(u16::from(number));
         self.put(number, false);
-        self.move_idle(number, kept(self.settings.priority_bits, byte));
+        self.move_idle(number, implemented_bits(self.settings.priority_bits, byte));
         self.put(number, waiting);
     }
 

@@ -7,7 +7,7 @@ use Rattle.std.proofs.lemmas.List.{take-append-drop, drop-append-le, drop-drop, 
 use Rattle.std.specs.Io.KnownBytes.{Appends, Keeps, append_known}
 use Rattle.platform.specs.declared.event.Event.{Event}
 use Rattle.platform.specs.Events.{line}
-use Rattle.output.specs.Output.{HandsOn, IsCutShort, Took, Writing, with_page}
+use Rattle.output.specs.Output.{FlushesAll, IsCutShort, Took, Writing, with_page}
 
 -- the writer took n more bytes of the page
 pub moved_on : (start mid new : Option (List ℕ)) (page rest : List ℕ) (at n : ℕ)
@@ -39,8 +39,8 @@ passed_on start mid new page bytes (Err error) kept none same took =
 -- what waits below is handed on, while nothing waits on the page
 pub flushed_all : {E : Type 0} (start mid new : Writing) (page : List ℕ) (result : Result (Unit {0}) E)
     → Keeps start.written (append_known mid.written page) → page ≡ [] → mid.errors ≡ start.errors
-    → HandsOn mid new result
-    → HandsOn start (with_page page new) result
+    → FlushesAll mid new result
+    → FlushesAll start (with_page page new) result
 flushed_all start mid new page (Ok done) kept none same took = (
   Keeps-trans start.written _ _ kept (append_known-kept mid.written new.written page took.0),
   took.1 ∙ same,

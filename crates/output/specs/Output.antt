@@ -47,9 +47,9 @@ Put old new text (Ok done) = WritesAll old new text
 Put old new text (Err error) = IsCutShort old.written new.written text × (new.errors ≡ old.errors + 1)
 
 -- The bytes that waited were sent, and no call failed; or a call failed. Which bytes were put stays the same.
-abbrev pub HandsOn : {E : Type 0} → Writing → Writing → Result (Unit {0}) E → Type 0
-HandsOn old new (Ok done) = Keeps old.written new.written × (new.errors ≡ old.errors) × (new.waits ≡ [])
-HandsOn old new (Err error) = Keeps old.written new.written × (new.errors ≡ old.errors + 1)
+abbrev pub FlushesAll : {E : Type 0} → Writing → Writing → Result (Unit {0}) E → Type 0
+FlushesAll old new (Ok done) = Keeps old.written new.written × (new.errors ≡ old.errors) × (new.waits ≡ [])
+FlushesAll old new (Err error) = Keeps old.written new.written × (new.errors ≡ old.errors + 1)
 
 -- known bytes grew by a prefix of a text
 pub record GrowsByPrefix (old new : Option (List ℕ)) (text : List ℕ) : Type 0 where

@@ -2,7 +2,7 @@
 
 ghost use Rattle.std.specs.Prelude.{◌≡◌, ℕ, ◌+◌, ◌<◌, ◌≤◌, Bool, true, false, [], ◌∷◌, None, OnErr};
 ghost use Rattle.output.specs.Input.{Reading, Received};
-ghost use Rattle.output.specs.Output.{HandsOn, Put, Took, WritesAll, Writing};
+ghost use Rattle.output.specs.Output.{FlushesAll, Put, Took, WritesAll, Writing};
 ghost use Rattle.platform.specs.Events.{line};
 ghost use Rattle.platform.specs.Text.{hex_word};
 ghost use Rattle.reference.specs.Accesses.{accessed};
@@ -128,7 +128,7 @@ pub trait Out {
 
     /// Sends the bytes that wait. On an error some of them may still wait.
     fn flush_all(&mut self) -> Result<(), IoError>
-        ensures { HandsOn (writing self.old) (writing self.new) result };
+        ensures { FlushesAll (writing self.old) (writing self.new) result };
 }
 
 /// A reader that reports how many bytes it returned. A contract sees the bytes that it has left,

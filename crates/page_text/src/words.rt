@@ -33,7 +33,7 @@ const OTHER_RULES: [Rule; 7] = [
     Rule::NegativePriority,
     Rule::PrivatePeripheralBus,
     Rule::VectorRead,
-    Rule::NeverExecute,
+    Rule::ExecuteNever,
 ];
 
 /// Returns the rule of a row: the regions that an MPU can have, and then those that are no region.
@@ -108,7 +108,7 @@ pub struct RuleMeaning(pub Rule);
 impl fmt::Display for RuleMeaning {
     fn fmt<W: fmt::Write>(&self, f: &mut fmt::Formatter<W>) -> fmt::Result {
         match self.0 {
-            Rule::NeverExecute => write!(f, "fetch at or above E0000000"),
+            Rule::ExecuteNever => write!(f, "fetch at or above E0000000"),
             Rule::VectorRead => write!(f, "vector read"),
             Rule::PrivatePeripheralBus => write!(f, "Private Peripheral Bus"),
             Rule::MpuOff => write!(f, "MPU off: default map"),
@@ -163,7 +163,7 @@ impl fmt::Display for RefusedBy<'_> {
 /// Writes why a rule refused an access.
 fn write_refusing<W: fmt::Write>(f: &mut fmt::Formatter<W>, rule: Rule) -> fmt::Result {
     match rule {
-        Rule::NeverExecute => write!(f, "never executed from here"),
+        Rule::ExecuteNever => write!(f, "never executed from here"),
         Rule::VectorRead => write!(f, "vector read"),
         Rule::PrivatePeripheralBus => write!(f, "Private Peripheral Bus"),
         Rule::MpuOff | Rule::NegativePriority | Rule::Background => {
@@ -182,7 +182,7 @@ fn write_granting<W: fmt::Write>(f: &mut fmt::Formatter<W>, rule: Rule) -> fmt::
             write!(f, "the default map had granted it")
         }
         Rule::Region(number) => write!(f, "region {number} had granted it"),
-        Rule::NeverExecute | Rule::NoRegion => write!(f, "refused by the rule too"),
+        Rule::ExecuteNever | Rule::NoRegion => write!(f, "refused by the rule too"),
     }
 }
 

@@ -4,7 +4,7 @@
 use Rattle.std.specs.Prelude.{ℕ, ◌+◌, ◌*◌, ◌/◌, ◌%◌, ◌^◌, Bool, true, false, not, ◌&&◌, ◌||◌, ◌==◌, if◌then◌else◌}
 use Rattle.std.specs.Prelude.{Option, Some, None, Result, Ok, Err, unwrap_or}
 use Rattle.instruction_set.specs.declared.unpredictable.UnpredictableCase.TheVariants as case
-use Rattle.instruction_set.specs.Registers.{weighed}
+use Rattle.instruction_set.specs.Registers.{mask_if}
 use Rattle.instruction_set.specs.Words.{is_bit}
 use Rattle.platform.specs.declared.exception.TheConstants.{NMI, PEND_SV, SYS_TICK}
 use Rattle.platform.specs.declared.stop.Unsupported.TheVariants.{ResetControl}
@@ -38,12 +38,12 @@ rettobase n x = not (x == 0) && not (is_other_active n x)
 unfoldable pub icsr : Nvic → ℕ → ℕ
 icsr n x =
     x % 2 ^ 9
-    + weighed (rettobase n x) (2 ^ 11)
+    + mask_if (rettobase n x) (2 ^ 11)
     + unwrap_or (best n) 0 * 2 ^ 12
-    + weighed (is_interrupt_pending n) (2 ^ 22)
-    + weighed (is_in n.pending SYS_TICK) (2 ^ 26)
-    + weighed (is_in n.pending PEND_SV) (2 ^ 28)
-    + weighed (is_in n.pending NMI) (2 ^ 31)
+    + mask_if (is_interrupt_pending n) (2 ^ 22)
+    + mask_if (is_in n.pending SYS_TICK) (2 ^ 26)
+    + mask_if (is_in n.pending PEND_SV) (2 ^ 28)
+    + mask_if (is_in n.pending NMI) (2 ^ 31)
 
 -- the exceptions after a write of x's set bit and clear bit; not both are 1
 abbrev pub set_or_cleared : Nvic → ℕ → Bool → Bool → Nvic

@@ -2,7 +2,7 @@
 -- Control and State Register").
 use Rattle.std.specs.Prelude.{ℕ, ◌+◌, ◌-◌, ◌^◌, ◌&&◌, ◌==◌, nat_le, nat_lt, if◌then◌else◌, Option, Some, None, Result}
 use Rattle.std.specs.Prelude.{Ok, Err, bit_and}
-use Rattle.instruction_set.specs.Registers.{weighed}
+use Rattle.instruction_set.specs.Registers.{mask_if}
 use Rattle.instruction_set.specs.Words.{is_bit}
 use Rattle.platform.specs.declared.exception.TheConstants.{MEM_MANAGE, BUS_FAULT, USAGE_FAULT, SV_CALL, PEND_SV}
 use Rattle.platform.specs.declared.exception.TheConstants.{SYS_TICK}
@@ -25,27 +25,27 @@ handler_priority_at word =
 -- MEMFAULTACT, BUSFAULTACT, USGFAULTACT, SVCALLACT, PENDSVACT and SYSTICKACT
 unfoldable pub handlers_active : Nvic → ℕ
 handlers_active n =
-    weighed (is_in n.active MEM_MANAGE) (2 ^ 0)
-    + weighed (is_in n.active BUS_FAULT) (2 ^ 1)
-    + weighed (is_in n.active USAGE_FAULT) (2 ^ 3)
-    + weighed (is_in n.active SV_CALL) (2 ^ 7)
-    + weighed (is_in n.active PEND_SV) (2 ^ 10)
-    + weighed (is_in n.active SYS_TICK) (2 ^ 11)
+    mask_if (is_in n.active MEM_MANAGE) (2 ^ 0)
+    + mask_if (is_in n.active BUS_FAULT) (2 ^ 1)
+    + mask_if (is_in n.active USAGE_FAULT) (2 ^ 3)
+    + mask_if (is_in n.active SV_CALL) (2 ^ 7)
+    + mask_if (is_in n.active PEND_SV) (2 ^ 10)
+    + mask_if (is_in n.active SYS_TICK) (2 ^ 11)
 
 -- USGFAULTPENDED, MEMFAULTPENDED, BUSFAULTPENDED and SVCALLPENDED
 unfoldable pub handlers_pending : Nvic → ℕ
 handlers_pending n =
-    weighed (is_in n.pending USAGE_FAULT) (2 ^ 12)
-    + weighed (is_in n.pending MEM_MANAGE) (2 ^ 13)
-    + weighed (is_in n.pending BUS_FAULT) (2 ^ 14)
-    + weighed (is_in n.pending SV_CALL) (2 ^ 15)
+    mask_if (is_in n.pending USAGE_FAULT) (2 ^ 12)
+    + mask_if (is_in n.pending MEM_MANAGE) (2 ^ 13)
+    + mask_if (is_in n.pending BUS_FAULT) (2 ^ 14)
+    + mask_if (is_in n.pending SV_CALL) (2 ^ 15)
 
 -- MEMFAULTENA, BUSFAULTENA and USGFAULTENA
 unfoldable pub handlers_enabled : Nvic → ℕ
 handlers_enabled n =
-    weighed (is_enabled n MEM_MANAGE) (2 ^ 16)
-    + weighed (is_enabled n BUS_FAULT) (2 ^ 17)
-    + weighed (is_enabled n USAGE_FAULT) (2 ^ 18)
+    mask_if (is_enabled n MEM_MANAGE) (2 ^ 16)
+    + mask_if (is_enabled n BUS_FAULT) (2 ^ 17)
+    + mask_if (is_enabled n USAGE_FAULT) (2 ^ 18)
 
 unfoldable pub read_shcsr : Nvic → ℕ
 read_shcsr n = handlers_active n + handlers_pending n + handlers_enabled n

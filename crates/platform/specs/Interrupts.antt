@@ -3,7 +3,7 @@
 -- interrupt that the board doesn't have reads 0 and ignores writes, since no set has it and no change reaches it.
 use Rattle.std.specs.Prelude.{ℕ, zero, suc, ◌+◌, ◌-◌, ◌*◌, ◌/◌, ◌%◌, ◌^◌, Bool, true, false, ◌&&◌, ◌==◌, nat_le, nat_lt}
 use Rattle.std.specs.Prelude.{if◌then◌else◌, slice_index, Option, Some, None}
-use Rattle.instruction_set.specs.Registers.{weighed}
+use Rattle.instruction_set.specs.Registers.{mask_if}
 use Rattle.instruction_set.specs.Words.{is_bit}
 use Rattle.platform.specs.declared.exception.TheConstants.{FIRST_INTERRUPT, MAX_INTERRUPTS}
 use Rattle.platform.specs.declared.system.InterruptRegister.{InterruptRegister}
@@ -35,20 +35,20 @@ abbrev pub first_exception : ℕ → ℕ
 first_exception k = FIRST_INTERRUPT + 32 * k
 
 -- whether a register reads 1 at exception x
-abbrev pub is_shown : Nvic → InterruptRegister → ℕ → Bool
-is_shown n Iser x = is_enabled n x
-is_shown n Icer x = is_enabled n x
-is_shown n Ispr x = is_in n.pending x
-is_shown n Icpr x = is_in n.pending x
-is_shown n Iabr x = is_in n.active x
+abbrev pub reads_one : Nvic → InterruptRegister → ℕ → Bool
+reads_one n Iser x = is_enabled n x
+reads_one n Icer x = is_enabled n x
+reads_one n Ispr x = is_in n.pending x
+reads_one n Icpr x = is_in n.pending x
+reads_one n Iabr x = is_in n.active x
 
 -- bits 0 to k - 1 of the word whose bit 0 is for exception x; k is the last argument
-unfoldable pub shown_below : Nvic → InterruptRegister → ℕ → ℕ → ℕ
-shown_below n register x zero = 0
-shown_below n register x (suc bit) = shown_below n register x bit + weighed (is_shown n register (x + bit)) (2 ^ bit)
+unfoldable pub read_below : Nvic → InterruptRegister → ℕ → ℕ → ℕ
+read_below n register x zero = 0
+read_below n register x (suc bit) = read_below n register x bit + mask_if (reads_one n register (x + bit)) (2 ^ bit)
 
 unfoldable pub read_interrupts : Nvic → InterruptRegister → ℕ → ℕ
-read_interrupts n register k = shown_below n register (first_exception k) 32
+read_interrupts n register k = read_below n register (first_exception k) 32
 
 -- what a 1 written to the bit of exception x does. After a 1 written to its bit of ICPR, an interrupt that only stays
 -- high makes its interrupt pending again no sooner than when the interrupt is deactivated (profile)

@@ -37,10 +37,10 @@ abbrev pub is_in_ppb : ℕ → Bool
 is_in_ppb a = a / 2 ^ 20 == 0xE00
 
 -- where the default memory map never executes: the regions Peripheral and Device, and the System region
-abbrev pub is_never_executed : ℕ → Bool
-is_never_executed a = (a / 2 ^ 29 == 2) || nat_le 5 (a / 2 ^ 29)
+abbrev pub is_execute_never : ℕ → Bool
+is_execute_never a = (a / 2 ^ 29 == 2) || nat_le 5 (a / 2 ^ 29)
 
 -- where an access can have a side effect: the device window and the Private Peripheral Bus and, on a board that
 -- describes devices, all of the address space that the default memory map never executes
 abbrev pub has_side_effects : Bool → ℕ → Bool
-has_side_effects devices a = (is_in_window a || is_in_ppb a) || (devices && is_never_executed a)
+has_side_effects devices a = (is_in_window a || is_in_ppb a) || (devices && is_execute_never a)

@@ -193,15 +193,15 @@ with_active n x on = record n { active = with_member n.interrupts n.active x on 
 abbrev pub with_enabled : Nvic → ℕ → Bool → Nvic
 with_enabled n x on = if can_be_disabled n.interrupts x then record n { enabled = slice_set n.enabled x on } else n
 
--- the top bits of a priority byte that the board keeps
+-- the top bits of a priority byte that the board implements
 abbrev pub kept : ℕ → ℕ → ℕ
-kept bits b = b / 2 ^ (8 - bits) * 2 ^ (8 - bits)
+implemented_bits bits b = b / 2 ^ (8 - bits) * 2 ^ (8 - bits)
 
 -- the priority byte of x becomes b, of which the board keeps the top bits; nothing changes where x has none
 abbrev pub with_priority : Nvic → ℕ → ℕ → Nvic
 with_priority n x b =
     if has_priority_byte n.interrupts x
-    then record n { priorities = slice_set n.priorities x (kept n.priority_bits b) }
+    then record n { priorities = slice_set n.priorities x (implemented_bits n.priority_bits b) }
     else n
 
 -- PRIGROUP becomes the low three bits of g
@@ -218,7 +218,7 @@ with_faultmask n on = record n { masks = record n.masks { faultmask = on } }
 
 -- BASEPRI becomes b, of which the board keeps the bits that it keeps of a priority byte
 abbrev pub with_basepri : Nvic → ℕ → Nvic
-with_basepri n b = record n { masks = record n.masks { basepri = kept n.priority_bits b } }
+with_basepri n b = record n { masks = record n.masks { basepri = implemented_bits n.priority_bits b } }
 
 -- what would be the candidate if PRIMASK were 0
 unfoldable pub candidate_unmasked : Nvic → Option ℕ

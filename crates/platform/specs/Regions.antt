@@ -100,8 +100,8 @@ read m register.Base = (region m m.number).base + m.number
 read m register.Attributes = (region m m.number).attributes
 
 -- the registers of region k as a debugger shows them: RBAR with VALID 0 and REGION k, and RASR
-abbrev pub shown : Mpu → ℕ → Option (ℕ × ℕ)
-shown m k = if nat_lt k m.count then Some ((region m k).base + k, (region m k).attributes) else None
+abbrev pub region_registers : Mpu → ℕ → Option (ℕ × ℕ)
+region_registers m k = if nat_lt k m.count then Some ((region m k).base + k, (region m k).attributes) else None
 
 -- Writing a register
 

@@ -7,7 +7,7 @@ use Rattle.platform.specs.declared.access.Decision.{Decision}
 use Rattle.platform.specs.declared.access.Kind.{Kind}
 use Rattle.platform.specs.declared.access.Kind.TheVariants.{Fetch, Load, Store, Push, Pop, Vector, Probe}
 use Rattle.platform.specs.declared.access.Rule.{Rule}
-use Rattle.platform.specs.declared.access.Rule.TheVariants.{NeverExecute, VectorRead, PrivatePeripheralBus, MpuOff}
+use Rattle.platform.specs.declared.access.Rule.TheVariants.{ExecuteNever, VectorRead, PrivatePeripheralBus, MpuOff}
 use Rattle.platform.specs.declared.access.Rule.TheVariants.{NegativePriority, Region, Background, NoRegion}
 use Rattle.platform.specs.Kinds.{is_fetch, is_vector}
 use Rattle.platform.specs.Map.{system_base, is_in_ppb}
@@ -32,8 +32,8 @@ default_map a Probe = true
 -- The cases before the regions
 
 -- a fetch from the system address space
-abbrev pub is_never_executed : ℕ → Kind → Bool
-is_never_executed a kind = is_fetch kind && nat_le system_base a
+abbrev pub is_fetch_from_system : ℕ → Kind → Bool
+is_fetch_from_system a kind = is_fetch kind && nat_le system_base a
 
 -- a data access to the Private Peripheral Bus
 abbrev pub is_ppb_data : ℕ → Kind → Bool
@@ -46,7 +46,7 @@ is_off_below_zero control below_zero = below_zero && not (is_on_below_zero contr
 -- the rule that decides without asking the regions, if one does
 unfoldable pub before_regions : ℕ → ℕ → Kind → Bool → Option Decision
 before_regions control a kind below_zero =
-    if is_never_executed a kind then Some (record { rule = NeverExecute; granted = false })
+    if is_fetch_from_system a kind then Some (record { rule = ExecuteNever; granted = false })
     else if is_vector kind then Some (record { rule = VectorRead; granted = true })
     else if is_ppb_data a kind then Some (record { rule = PrivatePeripheralBus; granted = true })
     else if not (is_on control) then Some (record { rule = MpuOff; granted = default_map a kind })
@@ -123,7 +123,7 @@ pub record AccessQuery : Type 0 where
 
 -- a rule's rank in the table: how many cases are above its own
 abbrev pub rank : Rule → ℕ
-rank NeverExecute = 0
+rank ExecuteNever = 0
 rank VectorRead = 1
 rank PrivatePeripheralBus = 2
 rank MpuOff = 3
@@ -134,7 +134,7 @@ rank NoRegion = 7
 
 -- whether the case of a rule fits, whatever cases come before it (`rank` has their order)
 abbrev pub Fits : Mpu → AccessQuery → Rule → Type 0
-Fits m q NeverExecute = is_never_executed q.address q.kind ≡ true
+Fits m q ExecuteNever = is_fetch_from_system q.address q.kind ≡ true
 Fits m q VectorRead = is_vector q.kind ≡ true
 Fits m q PrivatePeripheralBus = is_ppb_data q.address q.kind ≡ true
 Fits m q MpuOff = is_on m.control ≡ false
@@ -145,7 +145,7 @@ Fits m q NoRegion = ⊤
 
 -- what a rule grants, where it decides
 abbrev pub rule_grants : Mpu → AccessQuery → Rule → Bool
-rule_grants m q NeverExecute = false
+rule_grants m q ExecuteNever = false
 rule_grants m q VectorRead = true
 rule_grants m q PrivatePeripheralBus = true
 rule_grants m q MpuOff = default_map q.address q.kind

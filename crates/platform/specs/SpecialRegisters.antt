@@ -6,31 +6,31 @@ use Rattle.instruction_set.specs.declared.system.SpecialRegister.{SpecialRegiste
 use Rattle.instruction_set.specs.declared.system.SpecialRegister.TheVariants.{Apsr, Iapsr, Eapsr, Xpsr, Ipsr, Epsr}
 use Rattle.instruction_set.specs.declared.system.SpecialRegister.TheVariants.{Iepsr, Msp, Psp, Primask, Basepri}
 use Rattle.instruction_set.specs.declared.system.SpecialRegister.TheVariants.{BasepriMax, Faultmask, Control}
-use Rattle.instruction_set.specs.Registers.{Registers, is_privileged, apsr, flags_of, control, stack_pointer, weighed}
+use Rattle.instruction_set.specs.Registers.{Registers, is_privileged, apsr, flags_of, control, stack_pointer, mask_if}
 use Rattle.instruction_set.specs.Registers.{control_written}
 use Rattle.instruction_set.specs.Words.{is_bit}
 use Rattle.platform.specs.declared.exception.Masks.{Masks}
-use Rattle.platform.specs.Priorities.{Nvic, execution_priority, hard_fault_priority, kept, with_primask}
+use Rattle.platform.specs.Priorities.{Nvic, execution_priority, hard_fault_priority, implemented_bits, with_primask}
 use Rattle.platform.specs.Priorities.{with_faultmask, with_basepri}
 
 -- ---- MRS
 
 -- the registers that unprivileged code reads as 0: the stack pointers and the masks
-abbrev pub is_hidden : SpecialRegister → Bool
-is_hidden Apsr = false
-is_hidden Iapsr = false
-is_hidden Eapsr = false
-is_hidden Xpsr = false
-is_hidden Ipsr = false
-is_hidden Epsr = false
-is_hidden Iepsr = false
-is_hidden Msp = true
-is_hidden Psp = true
-is_hidden Primask = true
-is_hidden Basepri = true
-is_hidden BasepriMax = true
-is_hidden Faultmask = true
-is_hidden Control = false
+abbrev pub is_read_as_zero : SpecialRegister → Bool
+is_read_as_zero Apsr = false
+is_read_as_zero Iapsr = false
+is_read_as_zero Eapsr = false
+is_read_as_zero Xpsr = false
+is_read_as_zero Ipsr = false
+is_read_as_zero Epsr = false
+is_read_as_zero Iepsr = false
+is_read_as_zero Msp = true
+is_read_as_zero Psp = true
+is_read_as_zero Primask = true
+is_read_as_zero Basepri = true
+is_read_as_zero BasepriMax = true
+is_read_as_zero Faultmask = true
+is_read_as_zero Control = false
 
 -- what privileged code reads: EPSR is 0, and BASEPRI_MAX is BASEPRI
 unfoldable pub special_value : Registers → Masks → SpecialRegister → ℕ
@@ -43,15 +43,15 @@ special_value r m Epsr = 0
 special_value r m Iepsr = r.exception
 special_value r m Msp = r.msp
 special_value r m Psp = r.psp
-special_value r m Primask = weighed m.primask 1
+special_value r m Primask = mask_if m.primask 1
 special_value r m Basepri = m.basepri
 special_value r m BasepriMax = m.basepri
-special_value r m Faultmask = weighed m.faultmask 1
+special_value r m Faultmask = mask_if m.faultmask 1
 special_value r m Control = control r
 
 -- what MRS reads
 unfoldable pub read_special : Registers → Masks → SpecialRegister → ℕ
-read_special r m special = if is_hidden special && not (is_privileged r) then 0 else special_value r m special
+read_special r m special = if is_read_as_zero special && not (is_privileged r) then 0 else special_value r m special
 
 -- ---- MSR, registers
 
@@ -73,25 +73,26 @@ with_special r Faultmask value = r
 with_special r Control value = control_written r value
 
 -- the registers that unprivileged code writes: APSR, alone or with others
-abbrev pub is_open : SpecialRegister → Bool
-is_open Apsr = true
-is_open Iapsr = true
-is_open Eapsr = true
-is_open Xpsr = true
-is_open Ipsr = false
-is_open Epsr = false
-is_open Iepsr = false
-is_open Msp = false
-is_open Psp = false
-is_open Primask = false
-is_open Basepri = false
-is_open BasepriMax = false
-is_open Faultmask = false
-is_open Control = false
+abbrev pub is_written_unprivileged : SpecialRegister → Bool
+is_written_unprivileged Apsr = true
+is_written_unprivileged Iapsr = true
+is_written_unprivileged Eapsr = true
+is_written_unprivileged Xpsr = true
+is_written_unprivileged Ipsr = false
+is_written_unprivileged Epsr = false
+is_written_unprivileged Iepsr = false
+is_written_unprivileged Msp = false
+is_written_unprivileged Psp = false
+is_written_unprivileged Primask = false
+is_written_unprivileged Basepri = false
+is_written_unprivileged BasepriMax = false
+is_written_unprivileged Faultmask = false
+is_written_unprivileged Control = false
 
 -- the registers after MSR
 unfoldable pub write_special : Registers → SpecialRegister → ℕ → Registers
-write_special r special value = if is_privileged r || is_open special then with_special r special value else r
+write_special r special value = if is_privileged r
+    || is_written_unprivileged special then with_special r special value else r
 
 -- ---- MSR, masks
 
@@ -107,7 +108,7 @@ is_tighter basepri value = not (value == 0) && (nat_lt value basepri || (basepri
 -- a write to BASEPRI_MAX compares the bits that are kept (profile)
 unfoldable pub basepri_max_written : Nvic → ℕ → Nvic
 basepri_max_written n byte =
-    if is_tighter n.masks.basepri (kept n.priority_bits byte) then with_basepri n byte else n
+    if is_tighter n.masks.basepri (implemented_bits n.priority_bits byte) then with_basepri n byte else n
 
 -- what privileged code writes: bit 0 of a value to PRIMASK and FAULTMASK, bits 7:0 to BASEPRI
 unfoldable pub with_mask : Nvic → SpecialRegister → ℕ → Nvic

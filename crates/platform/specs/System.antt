@@ -200,9 +200,9 @@ on_interrupts s what = record s {
 -- ---- the lines of devices
 
 -- whether the board describes devices
-abbrev pub are_any : List DeviceWords → Bool
-are_any [] = false
-are_any (d ∷ ds) = true
+abbrev pub has_devices : List DeviceWords → Bool
+has_devices [] = false
+has_devices (d ∷ ds) = true
 
 abbrev pub with_devices : System → List DeviceWords → System
 with_devices s devices = record s { devices = devices }
@@ -293,13 +293,13 @@ reset_system flash_base interrupts bits regions script devices = settled (record
 -- ---- handlers
 
 -- whether exception x is an interrupt of the board whose input is high
-abbrev pub is_held : System → ℕ → Bool
-is_held s x = is_interrupt s.nvic.interrupts x && is_high s.time (x - FIRST_INTERRUPT)
+abbrev pub is_asserted : System → ℕ → Bool
+is_asserted s x = is_interrupt s.nvic.interrupts x && is_high s.time (x - FIRST_INTERRUPT)
 
 -- DeActivate() but for FAULTMASK: exception x isn't active any more, and is pending if its input is high (profile)
 unfoldable pub deactivated : System → ℕ → System
 deactivated s x =
-    if is_held s x
+    if is_asserted s x
     then with_nvic s (with_pending (with_active s.nvic x false) x true)
     else with_nvic s (with_active s.nvic x false)
 

@@ -10,7 +10,7 @@ use Rattle.platform.specs.Boards.{Described, IsScript, IsScriptFrom, is_flash, i
 use Rattle.platform.specs.Boards.{is_second_ram_or_none, is_size}
 use Rattle.platform.specs.Map.{is_for_memory}
 use Rattle.platform.specs.Memory.{Block, Memory, holds, is_in_memory}
-use Rattle.platform.specs.Priorities.{Nvic, is_in, is_exception, can_be_disabled, kept}
+use Rattle.platform.specs.Priorities.{Nvic, is_in, is_exception, can_be_disabled, implemented_bits}
 use Rattle.platform.specs.Regions.{IsSound}
 use Rattle.platform.specs.System.{System}
 use Rattle.platform.specs.Time.{Time, SysTick, last_tick}
@@ -27,16 +27,16 @@ pub record HasTimerBits (t : SysTick) : Type 0 where
   pub current : t.current < 2 ^ 24
 
 -- a priority byte with no bits set but those that the board keeps
-pub record IsKeptByte (bits b : ℕ) : Type 0 where
+pub record IsPriorityByte (bits b : ℕ) : Type 0 where
   pub byte : b < 2 ^ 8
-  pub kept : kept bits b ≡ b
+  pub kept : implemented_bits bits b ≡ b
 
 -- there is a priority byte for each number, the priority bytes and BASEPRI have no bit but the top ones that the board
 -- keeps, and PRIGROUP has three bits
 pub record KeepsTopBits (n : Nvic) : Type 0 where
   pub places : length n.priorities ≡ EXCEPTIONS
-  pub priorities : (x : ℕ) → IsKeptByte n.priority_bits (slice_index n.priorities x)
-  pub basepri : IsKeptByte n.priority_bits n.masks.basepri
+  pub priorities : (x : ℕ) → IsPriorityByte n.priority_bits (slice_index n.priorities x)
+  pub basepri : IsPriorityByte n.priority_bits n.masks.basepri
   pub group : n.group < 2 ^ 3
 
 -- a set has an element for each number below EXCEPTIONS, and only numbers that pass the test are in it

@@ -19,7 +19,7 @@ use Rattle.platform.specs.declared.access.DecidedAccess.{DecidedAccess}
 use Rattle.platform.specs.declared.access.Kind.{Kind}
 use Rattle.platform.specs.declared.access.Kind.TheVariants.{Fetch, Load, Store, Push, Pop, Vector, Probe}
 use Rattle.platform.specs.declared.access.Rule.{Rule}
-use Rattle.platform.specs.declared.access.Rule.TheVariants.{NeverExecute, VectorRead, PrivatePeripheralBus, MpuOff}
+use Rattle.platform.specs.declared.access.Rule.TheVariants.{ExecuteNever, VectorRead, PrivatePeripheralBus, MpuOff}
 use Rattle.platform.specs.declared.access.Rule.TheVariants.{NegativePriority, Region, Background, NoRegion}
 use Rattle.platform.specs.declared.event.RecordedFault.{RecordedFault}
 use Rattle.platform.specs.declared.stop.Unsupported.{Unsupported}
@@ -66,7 +66,7 @@ outcome_text (Some Mpu) = codes "mpu"
 outcome_text (Some Bus) = codes "bus"
 
 abbrev pub rule_text : Rule → List ℕ
-rule_text NeverExecute = codes "xn"
+rule_text ExecuteNever = codes "xn"
 rule_text VectorRead = codes "vec"
 rule_text PrivatePeripheralBus = codes "ppb"
 rule_text MpuOff = codes "off"

@@ -4,7 +4,7 @@
 use Rattle.std.specs.Prelude.{ℕ, ◌+◌, ◌-◌, ◌%◌, ◌^◌, ◌<◌, min, Bool, true, false, ◌&&◌, ◌||◌, nat_le, ◌==◌, ◌≡◌}
 use Rattle.std.specs.Prelude.{if◌then◌else◌, List, [], ◌∷◌, take, drop, slice_set, slice_index_or, replicate}
 use Rattle.std.specs.List.{prefix_len, list_any}
-use Rattle.instruction_set.specs.Registers.{weighed}
+use Rattle.instruction_set.specs.Registers.{mask_if}
 use Rattle.instruction_set.specs.Words.{is_bit}
 use Rattle.platform.specs.declared.exception.TheConstants.{NMI, SYS_TICK, FIRST_INTERRUPT, MAX_INTERRUPTS}
 use Rattle.platform.specs.declared.script.ScriptedEvent.{ScriptedEvent}
@@ -56,7 +56,7 @@ counted t = record t { current = next_current t; countflag = t.countflag || reac
 
 -- SYST_CSR: ENABLE, TICKINT, CLKSOURCE, which is always 1 (profile), and COUNTFLAG
 abbrev pub csr : SysTick → ℕ
-csr t = weighed t.enable 1 + weighed t.tickint (2 ^ 1) + 2 ^ 2 + weighed t.countflag (2 ^ 16)
+csr t = mask_if t.enable 1 + mask_if t.tickint (2 ^ 1) + 2 ^ 2 + mask_if t.countflag (2 ^ 16)
 
 -- a read of SYST_CSR clears COUNTFLAG
 abbrev pub after_csr_read : SysTick → SysTick

@@ -81,7 +81,7 @@ impl Kind {
 #[derive(Clone, Copy)]
 pub enum Rule {
     /// A fetch at or above 0xE0000000 is never granted.
-    NeverExecute,
+    ExecuteNever,
     /// A vector read is always granted.
     VectorRead,
     /// A data access to the Private Peripheral Bus, which the regions don't decide.

@@ -2,7 +2,7 @@
 //! the device window are is this project's choice).
 
 ghost use Rattle.std.specs.Prelude.{◌≡◌};
-ghost use Rattle.platform.specs.Map.{has_side_effects, is_in_ppb, is_in_window, is_never_executed};
+ghost use Rattle.platform.specs.Map.{has_side_effects, is_in_ppb, is_in_window, is_execute_never};
 
 /// Where RAM begins. Flash ends here, or before.
 pub const RAM_BASE: u32 = 0x2000_0000;
@@ -26,8 +26,8 @@ pub fn is_in_ppb(address: u32) -> bool
 /// Returns whether the default memory map never executes an address: in the regions Peripheral and Device, and in the
 /// System region.
 #[inline]
-fn is_never_executed(address: u32) -> bool
-    ensures { result ≡ is_never_executed address }
+fn is_execute_never(address: u32) -> bool
+    ensures { result ≡ is_execute_never address }
 {
     address >> 29 == 2 || address >> 29 >= 5
 }
@@ -38,5 +38,5 @@ fn is_never_executed(address: u32) -> bool
 pub fn has_side_effects(devices: bool, address: u32) -> bool
     ensures { result ≡ has_side_effects devices address }
 {
-    is_in_window(address) || is_in_ppb(address) || devices && is_never_executed(address)
+    is_in_window(address) || is_in_ppb(address) || devices && is_execute_never(address)
 }

@@ -23,8 +23,8 @@ use crate::settings::{check_number, check_number_or, unknown};
 use board::device_ranges::{SPACE, is_device_size, is_outside};
 use board::keys::DEVICE_KEYS;
 use board::{
-    DEFAULT_DEVICE_BYTES, Device, Found, Layout, MAX_DEVICES, find, goes_with, listed_device,
-    span_in, values_in,
+    DEFAULT_DEVICE_BYTES, Device, FoundDevices, Layout, MAX_DEVICES, find, goes_with,
+    listed_device, span_in, values_in,
 };
 use toml::{Table, Value};
 
@@ -54,7 +54,7 @@ fn listed_problem<'a>(values: &'a [Value], layout: &Layout) -> Option<PartProble
     ensures { Finds (option_map (λ p. p.problem) result)
         (devices_in (numbers_of layout.now) 0 [] (items_view values.now)) }
 {
-    let mut found = Found::new();
+    let mut found = FoundDevices::new();
     let mut before = 0;
     'values: for (index, value) in values.iter().enumerate() {
         if let Err(problem) = check_device(layout, before, found.devices(), value) {

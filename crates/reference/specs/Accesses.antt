@@ -3,7 +3,7 @@
 -- `transfer` of LoadStore makes.
 use Rattle.std.specs.Prelude.{ℕ, Bool, not, ◌&&◌, ◌||◌, if◌then◌else◌, List, [], ◌∷◌, ◌++◌, Option, Some, None, Result}
 use Rattle.std.specs.Prelude.{Ok, Err}
-use Rattle.devices.specs.Laws.{have}
+use Rattle.devices.specs.Laws.{has_device_at}
 use Rattle.instruction_set.specs.Sizes.{bytes_in}
 use Rattle.platform.specs.declared.access.Access.{Access}
 use Rattle.platform.specs.declared.access.Cause.{Cause}
@@ -33,7 +33,7 @@ use Rattle.platform.specs.System.{device_access, system_access}
 abbrev pub is_to_device : Bus → Access → Bool
 is_to_device b a =
     (is_load a.kind || is_store a.kind) && (not (is_in_memory b.memory a.address (bytes_in a.size))
-    && have b.system.devices a.address)
+    && has_device_at b.system.devices a.address)
 
 -- a request that a rule granted, carried out by the bus while IPSR is `exception`; a probe doesn't reach the bus
 unfoldable pub carried_out : ℕ → Bus → Rule → Request → Outcome Bus

@@ -58,13 +58,14 @@ table_branch halfwords r = branches_by (2 * halfwords) r
 -- ---- IT
 
 -- ITSTATE.IT<7:0> = firstcond:mask
-abbrev pub begun : IfThen → ℕ
-begun o = o.condition % 2 ^ 4 * 2 ^ 4 + o.mask % 2 ^ 4
+abbrev pub it_state_of : IfThen → ℕ
+it_state_of o = o.condition % 2 ^ 4 * 2 ^ 4 + o.mask % 2 ^ 4
 
 -- IT: the block begins with the next instruction, so ITSTATE is set and not advanced
 abbrev pub if_then : InstructionLength → IfThen → Registers → Finished
 if_then length o r =
-    record { registers = record r { it_state = begun o; pc = word_sum r.pc (instruction_bytes length) }; ending = Next }
+    record { registers = record r { it_state = it_state_of o; pc = word_sum r.pc (instruction_bytes length) }; ending =
+        Next }
 
 -- ---- the family
 

@@ -65,13 +65,13 @@ pop_stack s events e =
 -- ---- ExceptionReturn()
 
 -- tail-chaining: where there is an exception to take, nothing is popped or pushed, and its entry begins
-abbrev pub chained : State → List Event → ℕ → Option ℕ → Stepped
-chained s events e (Some x) = record { state = with_entry s e; events = events }
-chained s events e None = pop_stack s events e
+abbrev pub tail_chained : State → List Event → ℕ → Option ℕ → Stepped
+tail_chained s events e (Some x) = record { state = with_entry s e; events = events }
+tail_chained s events e None = pop_stack s events e
 
 -- a return that passed the check goes on; any other is UsageFault INVPC, at the execution priority after DeActivate()
 abbrev pub returned : State → List Event → ℕ → Bool → Stepped
-returned s events e true = chained s events e (candidate s.bus.system.nvic)
+returned s events e true = tail_chained s events e (candidate s.bus.system.nvic)
 returned s events e false = failed (with_entry s e) events (Usage InvalidReturn)
 
 -- the handler's exception is active; EXC_RETURN<3:0> is 0001, 1001 or 1101; and on a return to Thread mode no other

@@ -104,8 +104,9 @@ abbrev pub pended_by_fault : State → List Event → ℕ → Stepped
 pended_by_fault s events x = record { state = pended s x; events = events ++ fault_line s x ∷ [] }
 
 -- HardFault becomes pending in place of a fault or an SVC that can't be taken
-abbrev pub forced : State → List Event → Stepped
-forced s events = pended_by_fault (with_status s (with_fault_bits s.bus.system.status 0 FORCED)) events HARD_FAULT
+abbrev pub escalated_to_hard_fault : State → List Event → Stepped
+escalated_to_hard_fault s events = pended_by_fault (with_status s (with_fault_bits s.bus.system.status 0 FORCED)) events
+    HARD_FAULT
 
 -- no fault can be taken
 abbrev pub locked_up : State → List Event → Stepped
@@ -114,7 +115,7 @@ locked_up s events = stopped s (events ++ fault_line s 0 ∷ []) stop.Lockup
 -- a fault of exception x: x becomes pending, or HardFault in its place, or the machine locks up
 abbrev pub escalated : State → List Event → ℕ → Escalation → Stepped
 escalated s events x Itself = pended_by_fault s events x
-escalated s events x HardFault = forced s events
+escalated s events x HardFault = escalated_to_hard_fault s events
 escalated s events x Lockup = locked_up s events
 
 -- a fault is recorded; its exception, HardFault or lockup follows, judged at the current execution priority
@@ -134,7 +135,7 @@ failed s events (failure.Stop why) = stopped s events why
 abbrev pub supervisor_called_by : State → List Event → Escalation → Stepped
 supervisor_called_by s events Itself =
     record { state = pended (with_registers s (advances Short s.registers).registers) SV_CALL; events = events }
-supervisor_called_by s events HardFault = forced s events
+supervisor_called_by s events HardFault = escalated_to_hard_fault s events
 supervisor_called_by s events Lockup = locked_up s events
 
 unfoldable pub supervisor_called : State → List Event → Stepped

@@ -16,5 +16,5 @@ pub mod Step
 pub mod Run
 pub mod Start
 pub mod Places
-pub mod Shown
+pub mod Peek
 pub mod Invariant

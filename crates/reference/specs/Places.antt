@@ -2,7 +2,7 @@
 -- have no line (profile).
 use Rattle.std.specs.Prelude.{ℕ, ◌%◌, Bool, true, false, not, ◌&&◌, ◌||◌, nat_lt, ◌==◌, if◌then◌else◌, is_some}
 use Rattle.std.specs.Prelude.{Option, Some, None, Result, Ok, Err}
-use Rattle.devices.specs.Laws.{have}
+use Rattle.devices.specs.Laws.{has_device_at}
 use Rattle.devices.specs.Lines.{drives}
 use Rattle.instruction_set.specs.declared.system.SpecialRegister.{SpecialRegister}
 use Rattle.instruction_set.specs.declared.size.Size.TheVariants as size
@@ -37,7 +37,7 @@ abbrev pub is_there : Bus → Place → Bool
 is_there b (Reg number value) = nat_lt number 16
 is_there b (Special number value) = is_some (special_of number)
 is_there b (Word address value) =
-    is_in_memory b.memory address 4 || (is_in_ppb address || have b.system.devices address)
+    is_in_memory b.memory address 4 || (is_in_ppb address || has_device_at b.system.devices address)
 
 -- MSR by privileged code in Thread mode
 abbrev pub with_special_placed : State → SpecialRegister → ℕ → State
@@ -110,7 +110,7 @@ is_wired s (Rise interrupt) = is_free s interrupt
 is_wired s (Fall interrupt) = is_free s interrupt
 is_wired s (Pulse interrupt) = is_free s interrupt
 is_wired s Nmi = true
-is_wired s (Poke p) = have s.devices p.address
+is_wired s (Poke p) = has_device_at s.devices p.address
 
 -- the state in which a signal has come, in any mode, or the first refusal
 unfoldable pub signalled : State → Signal → Result State PlaceError

@@ -6,7 +6,7 @@ ghost use Rattle.instruction_set.specs.Registers as spec;
 ghost use Rattle.instruction_set.specs.Registers.{flags_of, with_result};
 ghost use Rattle.instruction_set.specs.Results.{logical_flags, sum_flags};
 
-use crate::{Flags, Regs, weighed};
+use crate::{Flags, Regs, mask_if};
 
 impl Regs {
     #[inline]
@@ -27,8 +27,8 @@ impl Regs {
     pub fn set_flags(&mut self, flags: Flags)
         ensures { self.new ≡ record self.old { flags = flags } }
     {
-        self.negative_result = weighed(flags.negative, 1 << 31);
-        self.zero_result = weighed(!flags.zero, 1);
+        self.negative_result = mask_if(flags.negative, 1 << 31);
+        self.zero_result = mask_if(!flags.zero, 1);
         self.carry = flags.carry;
         self.overflow = flags.overflow;
         self.saturated = flags.saturated;
@@ -77,11 +77,11 @@ impl Regs {
         ensures room { result ≤ 2 ^ 32 - 2 ^ 27 }
     {
         let flags = self.flags();
-        weighed(flags.negative, 1 << 31)
-            + weighed(flags.zero, 1 << 30)
-            + weighed(flags.carry, 1 << 29)
-            + weighed(flags.overflow, 1 << 28)
-            + weighed(flags.saturated, 1 << 27)
+        mask_if(flags.negative, 1 << 31)
+            + mask_if(flags.zero, 1 << 30)
+            + mask_if(flags.carry, 1 << 29)
+            + mask_if(flags.overflow, 1 << 28)
+            + mask_if(flags.saturated, 1 << 27)
     }
 }
 

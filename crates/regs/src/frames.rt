@@ -8,7 +8,7 @@ ghost use Rattle.instruction_set.specs.Frames.{general_popped, popped, popped_pc
 ghost use Rattle.instruction_set.specs.Registers.{sp};
 ghost use Rattle.instruction_set.specs.Words.{is_bit};
 
-use crate::{Regs, flags_of, weighed};
+use crate::{Regs, flags_of, mask_if};
 
 /// EXC_RETURN of Handler mode.
 const HANDLER: u32 = 0xFFFF_FFF1;
@@ -63,7 +63,7 @@ impl Regs {
     pub fn frame(&self) -> [u32; 8]
         ensures { result ≡ spec.frame self.now }
     {
-        let xpsr = self.xpsr() + weighed(self.sp() >> 2 & 1 == 1, 1 << 9);
+        let xpsr = self.xpsr() + mask_if(self.sp() >> 2 & 1 == 1, 1 << 9);
         let general = self.general();
         [
             general[0],

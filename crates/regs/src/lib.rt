@@ -309,15 +309,15 @@ impl Regs {
         let it_state = self.it_state as u32;
         self.apsr()
             + (it_state % 4 << 25)
-            + weighed(self.thumb, 1 << 24)
+            + mask_if(self.thumb, 1 << 24)
             + (it_state / 4 << 10)
             + self.exception as u32
     }
 }
 
 /// What a bit of this weight adds to a word.
-fn weighed(bit: bool, weight: u32) -> u32
-    ensures { result ≡ spec.weighed bit weight }
+fn mask_if(bit: bool, weight: u32) -> u32
+    ensures { result ≡ spec.mask_if bit weight }
 {
     if bit { weight } else { 0 }
 }

@@ -5,7 +5,7 @@ ghost use Rattle.std.specs.Prelude.{◌≡◌, ◌<◌, if◌then◌else◌};
 ghost use Rattle.instruction_set.specs.Registers as spec;
 ghost use Rattle.instruction_set.specs.Registers.{with_sp, stack_pointer, control_written};
 
-use crate::{Regs, SP, weighed};
+use crate::{Regs, SP, mask_if};
 
 impl Regs {
     /// Returns the stack pointer in use.
@@ -106,7 +106,7 @@ impl Regs {
     pub fn control(&self) -> u32
         ensures { result ≡ spec.control self.now }
     {
-        weighed(self.unprivileged, 1) + weighed(self.process_stack, 2)
+        mask_if(self.unprivileged, 1) + mask_if(self.process_stack, 2)
     }
 
     /// Writes CONTROL as MSR does: nPRIV (bit 0), and in Thread mode SPSEL (bit 1).

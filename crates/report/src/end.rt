@@ -142,7 +142,7 @@ fn write_regions<W: Write>(out: &mut W, machine: &Fast, symbols: &Symbols<'_>) -
             "<p id='mpu-negative'>The execution priority is below 0: the default map decides, also for \
              the faint strips above.</p>"
         )?,
-        Rule::NeverExecute
+        Rule::ExecuteNever
         | Rule::VectorRead
         | Rule::PrivatePeripheralBus
         | Rule::Region(_)

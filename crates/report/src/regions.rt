@@ -108,7 +108,7 @@ pub fn write_words<W: Write>(
     let size = ByteCount(words.bytes());
     let unprivileged = words.permission(false);
     let privileged = words.permission(true);
-    let executed = if words.is_never_executed() {
+    let executed = if words.is_execute_never() {
         "never executed"
     } else {
         "where it may be read"

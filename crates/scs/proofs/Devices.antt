@@ -8,7 +8,7 @@ use Rattle.devices.specs.declared.device.Poke.{Poke}
 use Rattle.devices.specs.declared.level.Level.{Level}
 use Rattle.devices.specs.Devices.{DeviceWords, Word, loaded, position_from, value_in}
 use Rattle.devices.specs.Devices.{word_at as word_of}
-use Rattle.devices.specs.Laws.{have}
+use Rattle.devices.specs.Laws.{has_device_at}
 use Rattle.devices.proofs.Positions.{first_has}
 use Rattle.devices.specs.Lines.{levels}
 use Rattle.devices.specs.Parts.{part}
@@ -23,31 +23,31 @@ use Rattle.platform.specs.Kinds.{is_store}
 use Rattle.platform.specs.Outcomes.{LeavesUnlessDone, Outcome}
 use Rattle.platform.specs.Priorities.{Nvic, is_in_words, with_due}
 use Rattle.platform.specs.Space.{number_read}
-use Rattle.platform.specs.System.{System, after_pokes, after_tick, are_any, device_access, loaded_from_device}
+use Rattle.platform.specs.System.{System, after_pokes, after_tick, has_devices, device_access, loaded_from_device}
 use Rattle.platform.specs.System.{on_interrupts, pokes_of, settled, time_passed, with_devices, with_level, with_levels}
 use Rattle.platform.specs.System.{with_pended}
 use Rattle.platform.specs.Time.{IsSetOf, events_at, is_high, pends, tick_pends, time_after_tick, with_events}
 use Rattle.platform.specs.Time.{with_signal}
-use Rattle.scs.specs.LineLevels.{are_pokes, seen}
+use Rattle.scs.specs.LineLevels.{are_pokes, with_due_and_high}
 
-pub any_by_length : (ds : List DeviceWords) → not (length ds == 0) ≡ are_any ds
+pub any_by_length : (ds : List DeviceWords) → not (length ds == 0) ≡ has_devices ds
 any_by_length [] = refl
 any_by_length (d ∷ ds) = grind (arith, nat_tests)
 
 -- ---- accesses
 
-found : (ds : List DeviceWords) (a : ℕ) → have ds a ≡ true → word_of ds a ≢ None
+found : (ds : List DeviceWords) (a : ℕ) → has_device_at ds a ≡ true → word_of ds a ≢ None
 found [] a there = absurd cc
 found (d ∷ ds) a there = by (has d.device a) refl (found ds a)
   where
-    by : (b : Bool) → has d.device a ≡ b → (have ds a ≡ true → word_of ds a ≢ None) → word_of (d ∷ ds) a ≢ None
+    by : (b : Bool) → has d.device a ≡ b → (has_device_at ds a ≡ true → word_of ds a ≢ None) → word_of (d ∷ ds) a ≢ None
     by true h rest none = absurd cc (rw h at none)
     by false h rest none = rest (rw h at there) (rw h at none)
 
 abbrev Keeps : System → Outcome System → Type 0
 Keeps s o = LeavesUnlessDone o.performed s o.after
 
-pub load_keeps : (s : System) (rule : Rule) (q : Request) → have s.devices q.access.address ≡ true →
+pub load_keeps : (s : System) (rule : Rule) (q : Request) → has_device_at s.devices q.access.address ≡ true →
     Keeps s (loaded_from_device s rule q)
 load_keeps s rule q there = by (word_of s.devices q.access.address) refl
   where
@@ -59,7 +59,7 @@ load_keeps s rule q there = by (word_of s.devices q.access.address) refl
     by (Some w) e = tt
 
 -- an access to a device is done
-pub device_leaves : (s : System) (rule : Rule) (q : Request) → have s.devices q.access.address ≡ true →
+pub device_leaves : (s : System) (rule : Rule) (q : Request) → has_device_at s.devices q.access.address ≡ true →
     LeavesUnlessDone (device_access s rule q).performed s (device_access s rule q).after
 unfolding device_access
 device_leaves s rule q there =
@@ -167,17 +167,17 @@ peeked s due same none =
 
 pub peeked_levels : (s : System) (due : List ℕ) (high : List Bool) → IsSetOf due (tick_pends s.time) →
     high ≡ with_events s.time.high (events_at (s.time.ticks + 1) s.time.script) → are_pokes (next_pokes s) ≡ true →
-    (with_levels (seen s due high) (levels (poked_next s) (s.time.ticks + 1))).nvic ≡ (after_tick s).nvic
+    (with_levels (with_due_and_high s due high) (levels (poked_next s) (s.time.ticks + 1))).nvic ≡ (after_tick s).nvic
 unfolding settled time_after_tick
 peeked_levels s due high same is any =
-    same_levels (seen s due high) (with_devices (time_passed s) (poked_next s))
+    same_levels (with_due_and_high s due high) (with_devices (time_passed s) (poked_next s))
     (levels (poked_next s) (s.time.ticks + 1)) (due_is_pended s.nvic due (tick_pends s.time) same) is
     ∙ sym (ap (λ (t : System). t.nvic) (tick_with_pokes s any))
 
 -- ---- one level, seen
 
 pub falls : (s : System) (due : List ℕ) (high : List Bool) (l : Level) → l.is_high ≡ false →
-    with_level (seen s due high) l ≡ seen s due (with_signal high (Fall l.number))
+    with_level (with_due_and_high s due high) l ≡ with_due_and_high s due (with_signal high (Fall l.number))
 falls s due high l low =
     rw low (ap (λ (n : Nvic). record s {
       nvic = n;
@@ -185,13 +185,14 @@ falls s due high l low =
     }) (nothing_is_pended (with_due s.nvic due) (pends (Fall l.number)) (λ x. refl)))
 
 pub stays : (s : System) (due : List ℕ) (high : List Bool) (l : Level) → l.is_high ≡ true →
-    slice_index_or high l.number false ≡ true → with_level (seen s due high) l ≡ seen s due high
+    slice_index_or high l.number false ≡ true → with_level (with_due_and_high s due high) l
+    ≡ with_due_and_high s due high
 stays s due high l up held = rw (up, held) refl
 
 pub rises : (s : System) (due more : List ℕ) (high : List Bool) (l : Level) → l.is_high ≡ true →
     slice_index_or high l.number false ≡ false →
     ((y : ℕ) → y < 256 → is_in_words more y ≡ (pends (Rise l.number) y || is_in_words due y)) →
-    with_level (seen s due high) l ≡ seen s more (with_signal high (Rise l.number))
+    with_level (with_due_and_high s due high) l ≡ with_due_and_high s more (with_signal high (Rise l.number))
 rises s due more high l up low same =
     rw (up, low) (ap (λ (n : Nvic). record s {
       nvic = n;
@@ -202,9 +203,9 @@ rises s due more high l up low same =
 pub rises_to : (s : System) (due more : List ℕ) (high up : List Bool) (l : Level) (i : ℕ) → i ≡ l.number →
     l.is_high ≡ true → slice_index_or high l.number false ≡ false →
     ((y : ℕ) → y < 256 → is_in_words more y ≡ (pends (Rise i) y || is_in_words due y)) →
-    up ≡ with_signal high (Rise i) → with_level (seen s due high) l ≡ seen s more up
+    up ≡ with_signal high (Rise i) → with_level (with_due_and_high s due high) l ≡ with_due_and_high s more up
 rises_to s due more high up l i is on low same e =
     rises s due more high l on low (λ y small. same y small ∙ ap (λ k. pends (Rise k) y || is_in_words due y) is)
-    ∙ ap (λ (h : List Bool). seen s more h) (sym (e ∙ ap (λ k. with_signal high (Rise k)) is))
+    ∙ ap (λ (h : List Bool). with_due_and_high s more h) (sym (e ∙ ap (λ k. with_signal high (Rise k)) is))
 
 pub ruleset seen_lemmas = (falls, stays)

@@ -10,5 +10,5 @@ are_pokes [] = false
 are_pokes (p ∷ ps) = true
 
 -- the system with these exceptions pending too, and with these interrupts high
-abbrev pub seen : System → List ℕ → List Bool → System
-seen s due high = record s { nvic = with_due s.nvic due; time = record s.time { high = high } }
+abbrev pub with_due_and_high : System → List ℕ → List Bool → System
+with_due_and_high s due high = record s { nvic = with_due s.nvic due; time = record s.time { high = high } }

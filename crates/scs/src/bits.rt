@@ -15,8 +15,8 @@ pub fn is_bit(word: u32, bit: u32) -> bool
 
 /// Returns the weight of a bit that is 1, and otherwise 0.
 #[inline]
-pub fn weighed(bit: bool, weight: u32) -> u32
-    ensures { result ≡ registers.weighed bit weight }
+pub fn mask_if(bit: bool, weight: u32) -> u32
+    ensures { result ≡ registers.mask_if bit weight }
 {
     if bit { weight } else { 0 }
 }

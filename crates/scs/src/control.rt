@@ -4,7 +4,7 @@ ghost use Rattle.std.specs.Prelude.{◌≡◌};
 ghost use Rattle.platform.specs.Control as spec;
 ghost use Rattle.scs.specs.Writes.{after_write, answered};
 
-use crate::bits::{is_bit, weighed};
+use crate::bits::{is_bit, mask_if};
 use crate::handlers::{read_shcsr, write_shcsr};
 use crate::interrupts::{ictr, trigger};
 use instruction_set::unpredictable::UnpredictableCase;
@@ -89,12 +89,12 @@ fn icsr<L: Exceptions>(exceptions: &L, exception: u16) -> u32
     ensures { result ≡ spec.icsr (L.content exceptions.now) exception }
 {
     u32::from(exception % 512)
-        + weighed(rettobase(exceptions, exception), 1 << 11)
+        + mask_if(rettobase(exceptions, exception), 1 << 11)
         + u32::from(exceptions.best().unwrap_or(0)) * 4096
-        + weighed(exceptions.is_interrupt_pending(), 1 << 22)
-        + weighed(exceptions.is_pending(SYS_TICK), 1 << 26)
-        + weighed(exceptions.is_pending(PEND_SV), 1 << 28)
-        + weighed(exceptions.is_pending(NMI), 1 << 31)
+        + mask_if(exceptions.is_interrupt_pending(), 1 << 22)
+        + mask_if(exceptions.is_pending(SYS_TICK), 1 << 26)
+        + mask_if(exceptions.is_pending(PEND_SV), 1 << 28)
+        + mask_if(exceptions.is_pending(NMI), 1 << 31)
 }
 
 /// Makes an exception pending or clears it, by its set bit and its clear bit in ICSR.

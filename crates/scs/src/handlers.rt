@@ -5,7 +5,7 @@ ghost use Rattle.platform.specs.Handlers as spec;
 ghost use Rattle.platform.specs.Priorities.{with_pending, with_enabled};
 ghost use Rattle.scs.specs.Writes.{after_write, answered};
 
-use crate::bits::{is_bit, weighed};
+use crate::bits::{is_bit, mask_if};
 use nvic::Exceptions;
 use platform::exception::{BUS_FAULT, MEM_MANAGE, PEND_SV, SV_CALL, SYS_TICK, USAGE_FAULT};
 use platform::stop::{Stop, Unsupported};
@@ -30,12 +30,12 @@ fn handlers_active<L: Exceptions>(exceptions: &L) -> u32
     ensures value { result ≡ spec.handlers_active (L.content exceptions.now) }
     ensures small { result < 2 ^ 12 }
 {
-    weighed(exceptions.is_active(MEM_MANAGE), 1)
-        + weighed(exceptions.is_active(BUS_FAULT), 1 << 1)
-        + weighed(exceptions.is_active(USAGE_FAULT), 1 << 3)
-        + weighed(exceptions.is_active(SV_CALL), 1 << 7)
-        + weighed(exceptions.is_active(PEND_SV), 1 << 10)
-        + weighed(exceptions.is_active(SYS_TICK), 1 << 11)
+    mask_if(exceptions.is_active(MEM_MANAGE), 1)
+        + mask_if(exceptions.is_active(BUS_FAULT), 1 << 1)
+        + mask_if(exceptions.is_active(USAGE_FAULT), 1 << 3)
+        + mask_if(exceptions.is_active(SV_CALL), 1 << 7)
+        + mask_if(exceptions.is_active(PEND_SV), 1 << 10)
+        + mask_if(exceptions.is_active(SYS_TICK), 1 << 11)
 }
 
 /// Reads the pending bits of SHCSR.
@@ -44,10 +44,10 @@ fn handlers_pending<L: Exceptions>(exceptions: &L) -> u32
     ensures value { result ≡ spec.handlers_pending (L.content exceptions.now) }
     ensures small { result < 2 ^ 16 }
 {
-    weighed(exceptions.is_pending(USAGE_FAULT), 1 << 12)
-        + weighed(exceptions.is_pending(MEM_MANAGE), 1 << 13)
-        + weighed(exceptions.is_pending(BUS_FAULT), 1 << 14)
-        + weighed(exceptions.is_pending(SV_CALL), 1 << 15)
+    mask_if(exceptions.is_pending(USAGE_FAULT), 1 << 12)
+        + mask_if(exceptions.is_pending(MEM_MANAGE), 1 << 13)
+        + mask_if(exceptions.is_pending(BUS_FAULT), 1 << 14)
+        + mask_if(exceptions.is_pending(SV_CALL), 1 << 15)
 }
 
 /// Reads the enable bits of SHCSR.
@@ -56,9 +56,9 @@ fn handlers_enabled<L: Exceptions>(exceptions: &L) -> u32
     ensures value { result ≡ spec.handlers_enabled (L.content exceptions.now) }
     ensures small { result < 2 ^ 19 }
 {
-    weighed(exceptions.is_enabled(MEM_MANAGE), 1 << 16)
-        + weighed(exceptions.is_enabled(BUS_FAULT), 1 << 17)
-        + weighed(exceptions.is_enabled(USAGE_FAULT), 1 << 18)
+    mask_if(exceptions.is_enabled(MEM_MANAGE), 1 << 16)
+        + mask_if(exceptions.is_enabled(BUS_FAULT), 1 << 17)
+        + mask_if(exceptions.is_enabled(USAGE_FAULT), 1 << 18)
 }
 
 /// Reads SHCSR.

@@ -49,8 +49,8 @@ fn first_exception(word: u8) -> u16
 }
 
 /// Returns whether a register reads 1 at the bit of an exception.
-fn is_shown<L: Exceptions>(exceptions: &L, register: InterruptRegister, number: u16) -> bool
-    ensures { result ≡ spec.is_shown (L.content exceptions.now) register number }
+fn reads_one<L: Exceptions>(exceptions: &L, register: InterruptRegister, number: u16) -> bool
+    ensures { result ≡ spec.reads_one (L.content exceptions.now) register number }
 {
     match register {
         InterruptRegister::Iser | InterruptRegister::Icer => exceptions.is_enabled(number),
@@ -66,9 +66,9 @@ pub fn read_interrupts<L: Exceptions>(exceptions: &L, register: InterruptRegiste
 {
     let first = first_exception(word);
     let mut value = 0;
-    #[tactic(auto, unfolding(platform::specs::Interrupts::shown_below))]
+    #[tactic(auto, unfolding(platform::specs::Interrupts::read_below))]
     'each: for bit in 0..32u16 {
-        if is_shown(exceptions, register, first + bit) {
+        if reads_one(exceptions, register, first + bit) {
             value += 1 << bit;
         }
     }

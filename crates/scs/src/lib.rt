@@ -5,21 +5,21 @@
 mod addresses;
 mod bits;
 mod control;
-mod copies;
 mod handlers;
 mod interrupts;
 pub mod laws;
-mod seeing;
+mod peeking;
+mod saved_system;
 mod settling;
 mod special;
 mod status;
 mod system;
 mod systick;
 
-pub use copies::SystemCopy;
 pub use platform::system::{
     ControlRegister, InterruptRegister, StatusRegister, SysTickRegister, SystemRegister,
 };
+pub use saved_system::SavedSystem;
 pub use special::{change_state, read_special, write_mask, write_special};
 pub use status::Status;
 pub use system::System;

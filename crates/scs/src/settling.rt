@@ -1,7 +1,7 @@
 //! The board's devices: accesses to them, pokes, and what their lines do to interrupts (profile).
 
 ghost use Rattle.std.specs.Prelude.{◌≡◌, ◌+◌, ◌^◌, ◌<◌, ◌∷◌, ◌&&◌, [], nat_lt, not, true, IfSome, Some};
-ghost use Rattle.devices.specs.Laws.{have};
+ghost use Rattle.devices.specs.Laws.{has_device_at};
 ghost use Rattle.devices.specs.Devices.{position_from, read_at};
 ghost use Rattle.devices.specs.Lines.{drives};
 ghost use Rattle.devices.specs.Pokes.{poked_all};
@@ -9,10 +9,10 @@ ghost use Rattle.instruction_set.specs.Sizes.{bytes_in};
 ghost use Rattle.platform.specs.Kinds.{is_store};
 ghost use Rattle.platform.specs.Outcomes.{IsOf, LeavesUnlessDone};
 ghost use Rattle.platform.specs.Priorities.{with_due};
-ghost use Rattle.platform.specs.System.{after_pokes, after_signal, after_tick, are_any, device_access};
+ghost use Rattle.platform.specs.System.{after_pokes, after_signal, after_tick, has_devices, device_access};
 ghost use Rattle.platform.specs.System.{loaded_from_device};
 ghost use Rattle.platform.specs.System.{on_interrupts, pokes_of, settled, stored_to_device, with_level, with_levels};
-ghost use Rattle.scs.specs.LineLevels.{are_pokes, seen};
+ghost use Rattle.scs.specs.LineLevels.{are_pokes, with_due_and_high};
 
 use crate::system::System;
 use clock::{Due, HighInterrupts, InterruptNumber, ScriptedEvent, Signal, SysTickState};
@@ -51,27 +51,27 @@ impl<D: Decider, L: Exceptions, U: SysTickState> System<D, L, U> {
     #[inline]
     #[tactic(auto, using(crate::proofs::Devices::any_by_length))]
     pub fn has_devices(&self) -> bool
-        ensures { result ≡ are_any self.now.devices }
+        ensures { result ≡ has_devices self.now.devices }
     {
-        self.devices.are_any()
+        !self.devices.is_empty()
     }
 
     /// Returns whether a device has an address.
-    pub fn has_device(&self, address: u32) -> bool
-        ensures { result ≡ have self.now.devices address }
+    pub fn has_device_at(&self, address: u32) -> bool
+        ensures { result ≡ has_device_at self.now.devices address }
     {
-        self.devices.have(address)
+        self.devices.has_device_at(address)
     }
 
     /// Returns whether the board has an interrupt, and no device drives it.
     pub fn is_free(&self, interrupt: u8) -> bool
         ensures { result ≡ (nat_lt interrupt self.now.nvic.interrupts && not (drives self.now.devices interrupt)) }
     {
-        interrupt < self.exceptions.interrupts() && !self.devices.drive(interrupt)
+        interrupt < self.exceptions.interrupts() && !self.devices.drives(interrupt)
     }
 
     /// Returns what a load of this size would read of a device now, if one has the address. Nothing is poked.
-    pub fn look_at_device(&self, address: u32, size: Size) -> Option<u32>
+    pub fn peek_device(&self, address: u32, size: Size) -> Option<u32>
         ensures value { result ≡ read_at self.now.devices self.now.time.ticks address size }
         ensures small { IfSome result (λ value. value < 256 ^ bytes_in size) }
     {
@@ -174,7 +174,7 @@ impl<D: Decider, L: Exceptions, U: SysTickState> System<D, L, U> {
     pub(crate) fn settle(&mut self)
         ensures { self.new ≡ settled self.old }
     {
-        if !self.devices.are_lined() {
+        if !self.devices.has_lines() {
             return;
         }
         let levels = self.devices.levels(self.clock.now());
@@ -214,7 +214,7 @@ impl<D: Decider, L: Exceptions, U: SysTickState> System<D, L, U> {
 
     /// Returns these exceptions with those that levels of lines make pending after them.
     fn peek_levels(&self, due: Due, high: HighInterrupts, levels: &[Level]) -> Due
-        ensures { with_due self.now.nvic result ≡ (with_levels (seen self.now due high) levels.now).nvic }
+        ensures { with_due self.now.nvic result ≡ (with_levels (with_due_and_high self.now due high) levels.now).nvic }
     {
         let mut due = due;
         let mut high = high;
@@ -227,7 +227,8 @@ impl<D: Decider, L: Exceptions, U: SysTickState> System<D, L, U> {
     /// Applies the level of a line to the exceptions that are due and to the interrupts whose input is high.
     #[tactic(auto, using(crate::proofs::Devices::seen_lemmas))]
     fn peek_level(&self, due: &mut Due, high: &mut HighInterrupts, level: Level)
-        ensures { with_level (seen self.now due.old high.old) level ≡ seen self.now due.new high.new }
+        ensures { with_level (with_due_and_high self.now due.old high.old) level
+            ≡ with_due_and_high self.now due.new high.new }
     {
         let interrupt = InterruptNumber::new(level.number);
         if !level.is_high {

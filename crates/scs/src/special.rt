@@ -9,8 +9,8 @@ use nvic::{Exceptions, Masks, Priority};
 use regs::{Regs, flags_of};
 
 /// Returns whether unprivileged code reads a register as 0.
-fn is_hidden(special: SpecialRegister) -> bool
-    ensures { result ≡ spec.is_hidden special }
+fn is_read_as_zero(special: SpecialRegister) -> bool
+    ensures { result ≡ spec.is_read_as_zero special }
 {
     matches!(
         special,
@@ -28,7 +28,7 @@ fn is_hidden(special: SpecialRegister) -> bool
 pub fn read_special(regs: &Regs, masks: Masks, special: SpecialRegister) -> u32
     ensures { result ≡ spec.read_special regs.now masks special }
 {
-    if is_hidden(special) && !regs.is_privileged() {
+    if is_read_as_zero(special) && !regs.is_privileged() {
         return 0;
     }
     special_value(regs, masks, special)
@@ -55,8 +55,8 @@ fn special_value(regs: &Regs, masks: Masks, special: SpecialRegister) -> u32
 }
 
 /// Returns whether unprivileged code writes a register: APSR, alone or with others.
-fn is_open(special: SpecialRegister) -> bool
-    ensures { result ≡ spec.is_open special }
+fn is_written_unprivileged(special: SpecialRegister) -> bool
+    ensures { result ≡ spec.is_written_unprivileged special }
 {
     matches!(
         special,
@@ -72,7 +72,7 @@ fn is_open(special: SpecialRegister) -> bool
 pub fn write_special(regs: &mut Regs, special: SpecialRegister, value: u32)
     ensures { regs.new ≡ spec.write_special regs.old special value }
 {
-    if regs.is_privileged() || is_open(special) {
+    if regs.is_privileged() || is_written_unprivileged(special) {
         set_special(regs, special, value);
     }
 }
@@ -160,15 +160,15 @@ fn is_tighter(basepri: u8, value: u8) -> bool
 fn write_basepri_max<L: Exceptions>(exceptions: &mut L, byte: u8)
     ensures { L.content exceptions.new ≡ spec.basepri_max_written (L.content exceptions.old) byte }
 {
-    let value = kept(exceptions.priority_bits(), byte);
+    let value = implemented_bits(exceptions.priority_bits(), byte);
     if is_tighter(exceptions.masks().basepri, value) {
         exceptions.set_basepri(byte);
     }
 }
 
-/// Returns the top bits of a priority byte that a board keeps.
-fn kept(priority_bits: u8, byte: u8) -> u8
-    ensures { result ≡ priorities.kept priority_bits byte }
+/// Returns the top bits of a priority byte that a board implements.
+fn implemented_bits(priority_bits: u8, byte: u8) -> u8
+    ensures { result ≡ priorities.implemented_bits priority_bits byte }
 {
     let dropped = 8u8.saturating_sub(priority_bits);
     (byte as u16 >> dropped << dropped) as u8

@@ -14,7 +14,7 @@ ghost use Rattle.platform.specs.System.{register_access, system_access, with_nvi
 ghost use Rattle.platform.specs.System as spec;
 ghost use Rattle.platform.specs.Interrupts as nvic;
 ghost use Rattle.platform.specs.Regions as mpu;
-ghost use Rattle.platform.specs.Regions.{is_on, shown};
+ghost use Rattle.platform.specs.Regions.{is_on, region_registers};
 ghost use Rattle.platform.specs.Priorities.{is_below_zero, with_pending, with_active, with_faultmask};
 ghost use Rattle.platform.specs.Rules.{decision_of, is_off_below_zero};
 ghost use Rattle.platform.specs.SpecialRegisters.{with_special, with_mask};
@@ -25,8 +25,8 @@ ghost use Rattle.scs.specs.Writes.{after_write, answered};
 
 use crate::addresses::{first_byte, has_width, in_place, part_of, register_at};
 use crate::control::{read_control, write_control};
-use crate::copies::SystemCopy;
 use crate::interrupts::{read_interrupts, read_priorities, write_interrupts, write_priorities};
+use crate::saved_system::SavedSystem;
 use crate::settling::poke_by;
 use crate::special;
 use crate::status::Status;
@@ -106,12 +106,12 @@ impl<D: Decider, L: Exceptions, U: SysTickState> System<D, L, U> {
     }
 
     /// Returns a copy, without what decides by the registers of the MPU, or fails where memory can't be allocated.
-    pub fn copied(&self, alloc: Global) -> Result<SystemCopy<L, U>, AllocError>
-        ensures { IfOk result (λ copy. copy ≡ self.now) }
+    pub fn save(&self, alloc: Global) -> Result<SavedSystem<L, U>, AllocError>
+        ensures { IfOk result (λ saved. saved ≡ self.now) }
     {
         let clock = self.clock.copied(alloc)?;
         let devices = self.devices.copied(alloc)?;
-        Ok(SystemCopy {
+        Ok(SavedSystem {
             mpu: self.mpu,
             exceptions: self.exceptions.copied(),
             status: self.status.copied(),
@@ -121,28 +121,28 @@ impl<D: Decider, L: Exceptions, U: SysTickState> System<D, L, U> {
     }
 
     /// Copies the state to a copy that has the same devices.
-    pub fn keep(&self, copy: &mut SystemCopy<L, U>)
-        requires { HaveSameDevices copy.old.devices self.now.devices }
-        ensures { copy.new ≡ self.now }
+    pub fn save_to(&self, saved: &mut SavedSystem<L, U>)
+        requires { HaveSameDevices saved.old.devices self.now.devices }
+        ensures { saved.new ≡ self.now }
     {
-        copy.mpu = self.mpu;
-        copy.exceptions = self.exceptions.copied();
-        copy.status = self.status.copied();
-        copy.clock.copy_from(&self.clock);
-        copy.devices.copy_from(&self.devices);
+        saved.mpu = self.mpu;
+        saved.exceptions = self.exceptions.copied();
+        saved.status = self.status.copied();
+        saved.clock.copy_from(&self.clock);
+        saved.devices.copy_from(&self.devices);
     }
 
     /// Takes the state of a copy that has the same devices.
-    pub fn take_back(&mut self, copy: &SystemCopy<L, U>)
-        requires { HaveSameDevices self.old.devices copy.now.devices }
-        ensures { self.new ≡ copy.now }
+    pub fn restore(&mut self, saved: &SavedSystem<L, U>)
+        requires { HaveSameDevices self.old.devices saved.now.devices }
+        ensures { self.new ≡ saved.now }
     {
-        self.mpu = copy.mpu;
-        self.decider.reload(&copy.mpu);
-        self.exceptions = copy.exceptions.copied();
-        self.status = copy.status.copied();
-        self.clock.copy_from(&copy.clock);
-        self.devices.copy_from(&copy.devices);
+        self.mpu = saved.mpu;
+        self.decider.reload(&saved.mpu);
+        self.exceptions = saved.exceptions.copied();
+        self.status = saved.status.copied();
+        self.clock.copy_from(&saved.clock);
+        self.devices.copy_from(&saved.devices);
     }
 
     /// Makes the next tick: time goes on, and what the tick pends becomes pending. On most ticks
@@ -303,7 +303,7 @@ impl<D: Decider, L: Exceptions, U: SysTickState> System<D, L, U> {
 
     /// Returns RBAR (with VALID 0 and REGION `number`) and RASR of a region, if there is one.
     pub fn region(&self, number: u8) -> Option<(u32, u32)>
-        ensures { result ≡ shown self.now.mpu number }
+        ensures { result ≡ region_registers self.now.mpu number }
     {
         self.mpu.region(number)
     }
@@ -376,16 +376,16 @@ impl<D: Decider, L: Exceptions, U: SysTickState> System<D, L, U> {
     pub fn deactivate(&mut self, number: u16)
         ensures { self.new ≡ deactivated self.old number }
     {
-        let is_held = self.is_held(number);
+        let is_asserted = self.is_asserted(number);
         self.exceptions.deactivate(number);
-        if is_held {
+        if is_asserted {
             self.pend(number);
         }
     }
 
     /// Returns whether an exception is an interrupt of the board whose interrupt is high.
-    fn is_held(&self, number: u16) -> bool
-        ensures { result ≡ spec.is_held self.now number }
+    fn is_asserted(&self, number: u16) -> bool
+        ensures { result ≡ spec.is_asserted self.now number }
     {
         number >= FIRST_INTERRUPT
             && number - FIRST_INTERRUPT < u16::from(self.exceptions.interrupts())

@@ -98,7 +98,7 @@ AreSoFar t given after pieces =
     (pieces ≡ t.answers given) ⊎ (IsAtEnd after.left × (pieces ≡ t.all_answers given))
 
 -- the answers to what was read were put, and the call failed that was to send those that wait
-pub record FailsToHandOn (t : Course) (given : List ℕ) (old new : MachineModel) (after : Reading) (out out' : Writing)
+pub record FailsToFlush (t : Course) (given : List ℕ) (old new : MachineModel) (after : Reading) (out out' : Writing)
     : Type 0 where
   pub pieces : List Piece
   pub so_far : AreSoFar t given after pieces
@@ -109,7 +109,7 @@ pub record FailsToWrite (t : Course) (old new : MachineModel) (before after : Re
   where
     pub given : List ℕ
     pub given_read : ReadsBytes given before after
-    pub delivers : DeliversPart (t.all_answers given) old new out out' ⊎ FailsToHandOn t given old new after out out'
+    pub delivers : DeliversPart (t.all_answers given) old new out out' ⊎ FailsToFlush t given old new after out out'
 
 -- a session from there on
 abbrev pub Sessions

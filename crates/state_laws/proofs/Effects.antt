@@ -44,7 +44,7 @@ use Rattle.instruction_set.specs.Results.{sets_flags, written}
 use Rattle.instruction_set.specs.Words.{is_bit, low_word, word_sum}
 use Rattle.reference.specs.declared.ending.Ending.{Ending}
 use Rattle.reference.specs.declared.ending.Ending.TheVariants as ending
-use Rattle.reference.specs.Branches.{with_link, takes_branch, begun, branch_effect}
+use Rattle.reference.specs.Branches.{with_link, takes_branch, it_state_of, branch_effect}
 use Rattle.reference.specs.Operations.{data_processing_effect, is_carried_out, effect, result_of}
 use Rattle.reference.specs.Exclusives.{exclusive_effect}
 use Rattle.reference.specs.Invariant.{IsStackPointer, IsCodeAddress}
@@ -257,8 +257,8 @@ module _ {P : Registers → Type 0} (k : KeepsWrites P) where
       cond_both (takes_branch o r) _ _ (Leaves P) (λ e. branches_by_kept o.offset r h) (λ e. advances_kept length r h)
   branch_kept length (branch.Table o) r values h = branches_by_kept _ r h
   branch_kept length (branch.IfThen o) r values h =
-      let begins : P (record r { it_state = begun o }) = k.it_state r (begun o) (omega arith) h in
-      record { kept = k.next (record r { it_state = begun o }) length begins; ending = tt }
+      let begins : P (record r { it_state = it_state_of o }) = k.it_state r (it_state_of o) (omega arith) h in
+      record { kept = k.next (record r { it_state = it_state_of o }) length begins; ending = tt }
 
   system_kept : (length : InstructionLength) (i : System) (r : Registers) → P r → Leaves P (system_effect length i r)
   unfolding system_effect

@@ -16,7 +16,7 @@ use Rattle.instruction_set.specs.Sizes.{instruction_bytes}
 use Rattle.instruction_set.specs.Words.{word_sum}
 use Rattle.reference.specs.Invariant.{IsStackPointer, IsCodeAddress, HasRegisters}
 use Rattle.reference.specs.ProgramCounter.{advanced}
-use Rattle.platform.specs.SpecialRegisters.{is_open, with_special, write_special}
+use Rattle.platform.specs.SpecialRegisters.{is_written_unprivileged, with_special, write_special}
 use Rattle.state_laws.proofs.Effects.{KeepsWrites, stack_pointer_is, code_address_is}
 
 -- ---- values
@@ -146,7 +146,8 @@ pub write_special_kept : (r : Registers) (special : SpecialRegister) (value : �
     HasRegisters (write_special r special value)
 unfolding write_special
 write_special_kept r special value h =
-    cond_both (is_privileged r || is_open special) _ _ HasRegisters (λ e. special_kept r special value h) (λ e. h)
+    cond_both (is_privileged r || is_written_unprivileged special) _ _ HasRegisters
+        (λ e. special_kept r special value h) (λ e. h)
 
 pub reset_has : (stack entry : ℕ) → HasRegisters (reset_registers stack entry)
 reset_has stack entry = record {

@@ -5,11 +5,12 @@ use Rattle.std.proofs.Math.Nat.{div-mul-le_self}
 use Rattle.nvic.proofs.Boards.{at_each, same_each, pending_of_board, active_of_board, enabled_of_board}
 use Rattle.nvic.proofs.Boards.{priority_of_board, group_of_board, primask_of_board, faultmask_of_board}
 use Rattle.nvic.proofs.Boards.{basepri_of_board, reset_of_board}
-use Rattle.nvic.proofs.Changes.{IsKept}
+use Rattle.nvic.proofs.Changes.{IsPreserved}
 use Rattle.nvic.specs.Laws.{FitsBoard}
 use Rattle.platform.specs.declared.exception.TheConstants.{EXCEPTIONS}
 use Rattle.platform.specs.SystemInvariant.{KeepsTopBits, HasExceptionsOfBoard}
-use Rattle.platform.specs.Priorities.{Nvic, can_be_disabled, has_priority_byte, kept, with_enabled, with_priority}
+use Rattle.platform.specs.Priorities.{Nvic, can_be_disabled, has_priority_byte, implemented_bits, with_enabled}
+use Rattle.platform.specs.Priorities.{with_priority}
 use Rattle.platform.specs.Priorities.{with_basepri}
 use Rattle.platform.specs.Priorities.{reset_nvic}
 
@@ -60,8 +61,8 @@ same_bytes interrupts bits n m l k p b h is = record {
 }
 
 -- a byte of which the lower bits are cleared is a byte
-kept_small : (bits b : ℕ) → b < 2 ^ 8 → kept bits b < 2 ^ 8
-kept_small bits b small = let less : kept bits b ≤ b = div-mul-le_self b (2 ^ (8 - bits)) in omega arith
+kept_small : (bits b : ℕ) → b < 2 ^ 8 → implemented_bits bits b < 2 ^ 8
+kept_small bits b small = let less : implemented_bits bits b ≤ b = div-mul-le_self b (2 ^ (8 - bits)) in omega arith
 
 enabled_kept : (interrupts bits : ℕ) (n : Nvic) (x : ℕ) (on : Bool) → HasBoard interrupts bits n →
     HasBoard interrupts bits (with_enabled n x on)
@@ -80,7 +81,8 @@ priority_kept interrupts bits n x b small h =
       same_bits = h.same_bits;
       board = is;
       bytes =
-          at_each (λ y c. c < 2 ^ 8) n.priorities x (kept n.priority_bits b) 0 (kept_small n.priority_bits b small)
+          at_each (λ y c. c < 2 ^ 8) n.priorities x (implemented_bits n.priority_bits b) 0
+              (kept_small n.priority_bits b small)
           h.bytes;
       basepri = h.basepri;
     })
@@ -96,7 +98,7 @@ basepri_kept interrupts bits n b small h = record {
   basepri = kept_small n.priority_bits b small;
 }
 
-pub board_kept : (interrupts bits : ℕ) → IsKept (HasBoard interrupts bits)
+pub board_kept : (interrupts bits : ℕ) → IsPreserved (HasBoard interrupts bits)
 board_kept interrupts bits = record {
   pending = λ n x on h. same_bytes interrupts bits n _ refl refl refl refl h (pending_of_board n x on h.board);
   active = λ n x on h. same_bytes interrupts bits n _ refl refl refl refl h (active_of_board n x on h.board);

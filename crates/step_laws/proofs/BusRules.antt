@@ -15,7 +15,7 @@ use Rattle.platform.specs.declared.fault_status.TheConstants.{FORCED}
 use Rattle.platform.specs.Events.{access_of}
 use Rattle.platform.specs.Priorities.{Nvic, is_fixed}
 use Rattle.platform.specs.Status.{Status, with_fault_bits}
-use Rattle.platform.specs.System.{System, deactivated, exception_ended, is_held, with_nvic}
+use Rattle.platform.specs.System.{System, deactivated, exception_ended, is_asserted, with_nvic}
 use Rattle.reference.specs.declared.failure.Failure.{Failure}
 use Rattle.reference.specs.declared.failure.Failure.TheVariants as failure
 use Rattle.reference.specs.Accesses.{access_lines, perform}
@@ -91,7 +91,7 @@ module _ {B : Bus → List Event → Type 0} (k : BusRules B) where
       → B (with_control b (deactivated b.system x)) events
   unfolding deactivated
   deactivated_keeps b events x h =
-      cond_both (is_held b.system x) _ _ (λ t. B (with_control b t) events) (λ e. k.nvic b events _ h)
+      cond_both (is_asserted b.system x) _ _ (λ t. B (with_control b t) events) (λ e. k.nvic b events _ h)
       (λ e. k.nvic b events _ h)
 
   ended_keeps : (b : Bus) (events : List Event) (x : ℕ) → B b events

@@ -1,6 +1,7 @@
 -- The word of a device changes by the pokes of a tick, and by loads and stores of a step: no other change of the bus
 -- touches the words of devices.
-use Rattle.std.proofs.Common.{◌≡◌, ℕ, ◌+◌, ◌++◌, Bool, true, false, not, ◌&&◌, ◌||◌, if◌then◌else◌, List, [], ◌∷◌, Option}
+use Rattle.std.proofs.Common.{◌≡◌, ℕ, ◌+◌, ◌++◌, Bool, true, false, not, ◌&&◌, ◌||◌, if◌then◌else◌, List, [], ◌∷◌}
+use Rattle.std.proofs.Common.{Option}
 use Rattle.std.proofs.Common.{Some, None, refl, sym, ◌∙◌, ap}
 use Rattle.std.specs.Prelude.{is_some, slice_index, unwrap_or}
 use Rattle.std.proofs.lemmas.Bool.{and_parts, cond_both, or_parts}
@@ -23,7 +24,7 @@ use Rattle.platform.specs.Kinds.{is_load, is_probe, is_store}
 use Rattle.platform.specs.Map.{is_in_ppb}
 use Rattle.platform.specs.Memory.{is_in_memory}
 use Rattle.instruction_set.specs.Sizes.{bytes_in}
-use Rattle.devices.specs.Laws.{have}
+use Rattle.devices.specs.Laws.{has_device_at}
 use Rattle.platform.specs.Outcomes.{Outcome}
 use Rattle.platform.specs.Space.{number_read}
 use Rattle.platform.specs.System.{System, after_pokes, after_tick, device_access, loaded_from_device, pokes_of, settled}
@@ -63,7 +64,8 @@ pokes_alike [] [] x kind a h = refl
 pokes_alike (d ∷ ds) (e ∷ es) x kind a h = rw h.0 (by (has e.device x) refl (pokes_alike ds es x kind a h.1))
   where
     by : (b : Bool) → has e.device x ≡ b → pokes_by (word_at ds x) kind a ≡ pokes_by (word_at es x) kind a →
-        pokes_by (if has e.device x then Some (record { device = e.device; stored = slice_index d.words (place e.device x) })
+        pokes_by
+            (if has e.device x then Some (record { device = e.device; stored = slice_index d.words (place e.device x) })
         else word_at ds x) kind a
         ≡ pokes_by (word_at (e ∷ es) x) kind a
     by true there rest = rw there refl
@@ -153,7 +155,8 @@ module _ (es : List DeviceWords) (a : ℕ) where
           unnamed =
               let parts =
               or_parts (is_store q.access.kind && are_of_word q.access.address a)
-              (pokes_by (word_at es q.access.address) q.access.kind a) (unread tick q rule (read_at s.devices s.time.ticks q.access.address q.access.size)
+              (pokes_by (word_at es q.access.address) q.access.kind a)
+                  (unread tick q rule (read_at s.devices s.time.ticks q.access.address q.access.size)
               (rw there refl) none) in
               rw (there, load, e) at
               (pokes_alike s.devices es q.access.address q.access.kind a same ∙ parts.1)
@@ -186,7 +189,8 @@ module _ (es : List DeviceWords) (a : ℕ) where
       (λ f. cond_both (is_to_device b q.access) _ _ (BusStays tick q b)
       (λ g. device_stays tick b.system rule q
       (and_parts (is_load q.access.kind || is_store q.access.kind)
-      (not (is_in_memory b.memory q.access.address (bytes_in q.access.size)) && have b.system.devices q.access.address)
+      (not (is_in_memory b.memory q.access.address (bytes_in q.access.size))
+          && has_device_at b.system.devices q.access.address)
       g).0 same)
       (λ g none. refl)))
 

@@ -16,7 +16,7 @@ use Rattle.platform.specs.declared.fault_status.FaultEffect.{FaultEffect}
 use Rattle.reference.specs.Accesses.{ListResult, perform_all}
 use Rattle.reference.specs.ExceptionEntry.{pushes, entering, begin_entry}
 use Rattle.reference.specs.ExceptionReturn.{with_entry, fits_mode, unstacked, frame_read, returns_privileged, pops}
-use Rattle.reference.specs.ExceptionReturn.{pop_stack, chained, returned, is_allowed, return_line}
+use Rattle.reference.specs.ExceptionReturn.{pop_stack, tail_chained, returned, is_allowed, return_line}
 use Rattle.platform.specs.System.{exception_ended}
 use Rattle.reference.specs.ExceptionReturn.{exception_return}
 use Rattle.reference.specs.Faults.{escalated, faulted, failed}
@@ -83,7 +83,7 @@ unfolding pop_stack
 popped_ends s events e = read_ends s events e (pops_of s e) _ refl
 
 chained_ends : (s : State) (events : List Event) (e : ℕ) (next : Option ℕ) →
-    EndsWith s.registers e (pops_of s e) (chained s events e next)
+    EndsWith s.registers e (pops_of s e) (tail_chained s events e next)
 chained_ends s events e (Some x) free = absurd cc (free.0)
 chained_ends s events e None free = popped_ends s events e free
 

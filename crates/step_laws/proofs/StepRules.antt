@@ -58,7 +58,8 @@ use Rattle.reference.specs.declared.failure.UsageFault.TheVariants.{UndefinedIns
 use Rattle.reference.specs.Accesses.{ListResult, access_lines, followed, perform, perform_all, value_of}
 use Rattle.reference.specs.ExceptionEntry.{begin_entry, entering, exception_taken, pushes, stacked, take_vector}
 use Rattle.reference.specs.ExceptionEntry.{taken_if_any, vector_read, vector_refused, vector_taken, words_from}
-use Rattle.reference.specs.ExceptionReturn.{chained, exception_return, fits_mode, frame_read, is_allowed, pop_stack}
+use Rattle.reference.specs.ExceptionReturn.{tail_chained, exception_return, fits_mode, frame_read, is_allowed}
+use Rattle.reference.specs.ExceptionReturn.{pop_stack}
 use Rattle.reference.specs.ExceptionReturn.{pops, return_line, returned, unstacked, with_entry}
 use Rattle.reference.specs.Faults.{failed, pended, supervisor_called, supervisor_called_by, with_status}
 use Rattle.reference.specs.LoadStore.{fetch_at}
@@ -67,7 +68,8 @@ use Rattle.reference.specs.ProgramCounter.{Finished, advances}
 use Rattle.reference.specs.State.{Bus, State, Stepped, stopped, ticked, with_bus, with_exceptions, with_registers}
 use Rattle.reference.specs.State.{with_system}
 use Rattle.reference.specs.Step.{ended, executed, fetched_first, fetched_second, finished, completed, instruction}
-use Rattle.reference.specs.Step.{performed_all, phase, planned, running, served, sleeps_on, step, unless_stopped}
+use Rattle.reference.specs.Step.{performed_all, phase, planned, running, after_accesses, sleeps_on, step}
+use Rattle.reference.specs.Step.{unless_stopped}
 use Rattle.reference.specs.Step.{with_second, with_special_read, with_special_written, with_state_changed}
 use Rattle.reference.specs.Step.{undefined_instruction}
 
@@ -291,7 +293,7 @@ module _ {P : Option Failure → State → List Event → Type 0} {Q : Stepped �
       read_keeps s events e all all.failure (list_keeps tick s events qs (outside_fit s.entry qs out) p)
 
   chained_keeps : (s : State) (events : List Event) (e : ℕ) (next : Option ℕ) → candidate s.bus.system.nvic ≡ next
-      → s.entry ≡ None → P None s events → Q (chained s events e next)
+      → s.entry ≡ None → P None s events → Q (tail_chained s events e next)
   chained_keeps s events e (Some x) is out p = let after = k.entry s events e x is p in search ends
   chained_keeps s events e None is out p = popped_keeps s events e out p
 
@@ -329,7 +331,7 @@ module _ {P : Option Failure → State → List Event → Type 0} {Q : Stepped �
   finished_keeps s events f out p = ended_keeps (with_registers s f.registers) events f.ending out p
 
   served_keeps : (s : State) (events : List Event) (i : CodedInstruction) (all : ListResult) (end : Option Failure)
-      → s.entry ≡ None → P end (with_bus s all.bus) (events ++ all.events) → Q (served s events i all end)
+      → s.entry ≡ None → P end (with_bus s all.bus) (events ++ all.events) → Q (after_accesses s events i all end)
   served_keeps s events i all None out p =
       let after = with_bus s all.bus in
       finished_keeps after (events ++ all.events) (result_of i s.registers all.values) out

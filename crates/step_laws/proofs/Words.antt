@@ -4,7 +4,7 @@ use Rattle.std.proofs.Common.{bit_or, refl, ◌∙◌, ap, arith}
 use Rattle.std.proofs.lemmas.Bool.Decides.{nat_tests}
 use Rattle.std.proofs.lemmas.Nat.{or_shifted}
 use Rattle.instruction_set.specs.Frames.{frame_base, pushed_xpsr, above_frame, it_of}
-use Rattle.instruction_set.specs.Registers.{Registers, sp, weighed, flags_of}
+use Rattle.instruction_set.specs.Registers.{Registers, sp, mask_if, flags_of}
 use Rattle.instruction_set.specs.Words.{word_sum, is_bit}
 
 -- 1 for a set bit
@@ -15,7 +15,7 @@ number_bound : (b : Bool) → number b ≤ 1
 number_bound true = omega arith
 number_bound false = omega arith
 
-weighed_is : (b : Bool) (weight : ℕ) → weighed b weight ≡ number b * weight
+weighed_is : (b : Bool) (weight : ℕ) → mask_if b weight ≡ number b * weight
 weighed_is true weight = omega arith
 weighed_is false weight = omega arith
 

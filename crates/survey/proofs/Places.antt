@@ -6,7 +6,7 @@ use Rattle.platform.specs.declared.access.Cause.TheVariants.{Mpu, Bus}
 use Rattle.platform.specs.declared.access.Kind.{Kind}
 use Rattle.platform.specs.declared.access.Kind.TheVariants.{Fetch, Load, Store, Push, Pop, Vector, Probe}
 use Rattle.platform.specs.declared.access.Rule.{Rule}
-use Rattle.platform.specs.declared.access.Rule.TheVariants.{NeverExecute, VectorRead, PrivatePeripheralBus, MpuOff}
+use Rattle.platform.specs.declared.access.Rule.TheVariants.{ExecuteNever, VectorRead, PrivatePeripheralBus, MpuOff}
 use Rattle.platform.specs.declared.access.Rule.TheVariants.{NegativePriority, Region, Background, NoRegion}
 use Rattle.survey.specs.Counts.{rule_number, privilege_number, kind_number, outcome_number}
 use Rattle.survey.specs.CountLaw.{IsPlaceOfOne}
@@ -75,7 +75,7 @@ kind_back Vector = refl
 kind_back Probe = refl
 
 abbrev rule_at : ℕ → Rule
-rule_at zero = NeverExecute
+rule_at zero = ExecuteNever
 rule_at (suc zero) = VectorRead
 rule_at (suc (suc zero)) = PrivatePeripheralBus
 rule_at (suc (suc (suc zero))) = MpuOff
@@ -85,7 +85,7 @@ rule_at (suc (suc (suc (suc (suc (suc zero)))))) = NoRegion
 rule_at (suc (suc (suc (suc (suc (suc (suc number))))))) = Region number
 
 rule_back : (r : Rule) → rule_at (rule_number r) ≡ r
-rule_back NeverExecute = refl
+rule_back ExecuteNever = refl
 rule_back VectorRead = refl
 rule_back PrivatePeripheralBus = refl
 rule_back MpuOff = refl

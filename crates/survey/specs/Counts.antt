@@ -7,12 +7,12 @@ use Rattle.platform.specs.declared.access.DecidedAccess.{DecidedAccess}
 use Rattle.platform.specs.declared.access.Kind.{Kind}
 use Rattle.platform.specs.declared.access.Kind.TheVariants.{Fetch, Load, Store, Push, Pop, Vector, Probe}
 use Rattle.platform.specs.declared.access.Rule.{Rule}
-use Rattle.platform.specs.declared.access.Rule.TheVariants.{NeverExecute, VectorRead, PrivatePeripheralBus, MpuOff}
+use Rattle.platform.specs.declared.access.Rule.TheVariants.{ExecuteNever, VectorRead, PrivatePeripheralBus, MpuOff}
 use Rattle.platform.specs.declared.access.Rule.TheVariants.{NegativePriority, Region, Background, NoRegion}
 
 -- the number of a rule: the rules that are no region from 0 to 6, and then the regions by their numbers
 abbrev pub rule_number : Rule → ℕ
-rule_number NeverExecute = 0
+rule_number ExecuteNever = 0
 rule_number VectorRead = 1
 rule_number PrivatePeripheralBus = 2
 rule_number MpuOff = 3

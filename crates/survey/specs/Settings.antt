@@ -3,9 +3,9 @@ use Rattle.std.specs.Prelude.{ℕ, ◌+◌, Bool, ◌&&◌, ◌==◌, nat_lt, if
 use Rattle.std.specs.Prelude.{None, slice_set, slice_index_or, take, replicate}
 use Rattle.platform.specs.declared.access.DecidedAccess.{DecidedAccess}
 use Rattle.platform.specs.declared.access.Rule.{Rule}
-use Rattle.platform.specs.declared.access.Rule.TheVariants.{NeverExecute, VectorRead, PrivatePeripheralBus, MpuOff}
+use Rattle.platform.specs.declared.access.Rule.TheVariants.{ExecuteNever, VectorRead, PrivatePeripheralBus, MpuOff}
 use Rattle.platform.specs.declared.access.Rule.TheVariants.{NegativePriority, Region, Background, NoRegion}
-use Rattle.platform.specs.Regions.{Mpu, shown}
+use Rattle.platform.specs.Regions.{Mpu, region_registers}
 use Rattle.survey.specs.declared.setting.RegionSetting.{RegionSetting}
 use Rattle.survey.specs.declared.setting.Setting.{Setting}
 use Rattle.survey.specs.Counts.{counted_at, one_more, way_of}
@@ -76,7 +76,7 @@ with_setting_of s (Some region) way = with_setting s region way
 
 -- after an access that was decided by a rule, while the MPU had these registers
 abbrev pub with_rule : Mpu → Settings → ℕ → Rule → Settings
-with_rule mpu s way NeverExecute = s
+with_rule mpu s way ExecuteNever = s
 with_rule mpu s way VectorRead = s
 with_rule mpu s way PrivatePeripheralBus = s
 with_rule mpu s way MpuOff = s
@@ -84,7 +84,7 @@ with_rule mpu s way NegativePriority = s
 with_rule mpu s way Background = s
 with_rule mpu s way NoRegion = s
 with_rule mpu s way (Region number) =
-    with_setting_of s (setting_of number (shown mpu number)) way
+    with_setting_of s (setting_of number (region_registers mpu number)) way
 
 -- after an access
 abbrev pub with_decision : Mpu → Settings → DecidedAccess → Settings

@@ -29,9 +29,9 @@ pub struct Cells {
 
 impl Model for Cells {
     ghost use Rattle.std.specs.Prelude.{◌≡◌, ◌≤◌, ◌*◌, ◌^◌, length};
-    ghost use Rattle.survey.specs.Cells.{Cells as Seen};
+    ghost use Rattle.survey.specs.Cells.{Cells as CellsView};
 
-    ghost Value = { Seen };
+    ghost Value = { CellsView };
 
     ghost view = { λ c. record { base = c.base; size = c.size; width = c.width; marks = c.marks.items } };
 

@@ -21,9 +21,9 @@ pub struct CodeCounts {
 
 impl Model for CodeCounts {
     ghost use Rattle.std.specs.Prelude.{◌≡◌, ◌≤◌, ◌*◌, length};
-    ghost use Rattle.survey.specs.CodeCounts.{CodeCounts as Seen};
+    ghost use Rattle.survey.specs.CodeCounts.{CodeCounts as CodeCountsView};
 
-    ghost Value = { Seen };
+    ghost Value = { CodeCountsView };
 
     ghost view = { λ c. record { base = c.base; halfwords = c.halfwords; counters = c.counters.items } };
 

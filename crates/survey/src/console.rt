@@ -19,9 +19,9 @@ pub struct Console {
 
 impl Model for Console {
     ghost use Rattle.std.specs.Prelude.{◌≡◌, ◌≤◌, length};
-    ghost use Rattle.survey.specs.Console.{Console as Seen};
+    ghost use Rattle.survey.specs.Console.{Console as ConsoleView};
 
-    ghost Value = { Seen };
+    ghost Value = { ConsoleView };
 
     ghost view = { λ c. record { bytes = c.bytes.items; used = c.used; number = c.number } };
 

@@ -95,7 +95,7 @@ fn rule_number(rule: Rule) -> usize
     ensures within { result < 263 }
 {
     match rule {
-        Rule::NeverExecute => 0,
+        Rule::ExecuteNever => 0,
         Rule::VectorRead => 1,
         Rule::PrivatePeripheralBus => 2,
         Rule::MpuOff => 3,

@@ -26,9 +26,9 @@ pub struct Faults {
 
 impl Model for Faults {
     ghost use Rattle.std.specs.Prelude.{◌≡◌, ◌≤◌, length};
-    ghost use Rattle.survey.specs.Faults.{Faults as Seen};
+    ghost use Rattle.survey.specs.Faults.{Faults as FaultsView};
 
-    ghost Value = { Seen };
+    ghost Value = { FaultsView };
 
     ghost view = { λ f. record { rows = f.rows.items; used = f.used; number = f.number; refused = f.refused } };
 

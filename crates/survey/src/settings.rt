@@ -1,7 +1,7 @@
 //! The settings under which regions decided accesses.
 
 ghost use Rattle.std.specs.Prelude.{◌≡◌, ◌<◌, length, take, IfOk};
-ghost use Rattle.platform.specs.Regions.{shown};
+ghost use Rattle.platform.specs.Regions.{region_registers};
 ghost use Rattle.survey.specs.Settings.{added, counted_from, place_in, setting_of, with_decision, with_setting};
 
 use crate::counts::{WAYS, way};
@@ -24,9 +24,9 @@ pub struct Settings {
 
 impl Model for Settings {
     ghost use Rattle.std.specs.Prelude.{◌≡◌, ◌≤◌, length};
-    ghost use Rattle.survey.specs.Settings.{Settings as Seen};
+    ghost use Rattle.survey.specs.Settings.{Settings as SettingsView};
 
-    ghost Value = { Seen };
+    ghost Value = { SettingsView };
 
     ghost view = { λ s. record { rows = s.rows.items; used = s.used; others = s.others } };
 
@@ -72,7 +72,7 @@ impl Settings {
         ensures { self.new ≡ with_decision mpu.now self.old decided.now }
     {
         match decided.rule {
-            Rule::NeverExecute => {}
+            Rule::ExecuteNever => {}
             Rule::VectorRead => {}
             Rule::PrivatePeripheralBus => {}
             Rule::MpuOff => {}
@@ -144,7 +144,7 @@ fn place_in(region: &RegionSetting, rows: &[Setting]) -> usize
 /// Returns the setting of the region of a number, if there is one.
 #[inline]
 fn setting_of(mpu: &MpuRegs, number: u8) -> Option<RegionSetting>
-    ensures { result ≡ setting_of number (shown mpu.now number) }
+    ensures { result ≡ setting_of number (region_registers mpu.now number) }
 {
     if number >= mpu.count() {
         return None;

@@ -33,9 +33,9 @@ pub struct Timeline {
 
 impl Model for Timeline {
     ghost use Rattle.std.specs.Prelude.{◌≡◌, ◌≤◌, length};
-    ghost use Rattle.survey.specs.Timeline.{Timeline as Seen};
+    ghost use Rattle.survey.specs.Timeline.{Timeline as TimelineView};
 
-    ghost Value = { Seen };
+    ghost Value = { TimelineView };
 
     ghost view = { λ t. record {
       columns = t.columns.items;

@@ -75,7 +75,7 @@ impl<'a, K: Begun> CountedEvents<'a, K> {
         ensures state { machine.new ≡ record machine.old { state = (step machine.old.state).state } }
         ensures wrote { result ≡ some_writes_system (step machine.old.state).events }
     {
-        machine.step_into(self);
+        machine.step_with_sink(self);
         self.wrote_system
     }
 }

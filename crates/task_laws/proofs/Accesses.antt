@@ -8,7 +8,7 @@
 use Rattle.std.proofs.Common.{◌≡◌, ◌⊎◌, inl, inr, ℕ, ◌+◌, Bool, true, false, not, ◌&&◌, ◌||◌, List, [], ◌∷◌}
 use Rattle.std.proofs.Common.{Result, Ok, Err, refl, sym, ap, subst, ◌∙◌}
 use Rattle.std.proofs.lemmas.Bool.{or_right}
-use Rattle.devices.specs.Laws.{have}
+use Rattle.devices.specs.Laws.{has_device_at}
 use Rattle.instruction_set.specs.Sizes.{bytes_in}
 use Rattle.platform.specs.declared.access.Access.{Access}
 use Rattle.platform.specs.declared.access.Decision.{Decision}
@@ -170,7 +170,8 @@ module _ (m : Mpu) (z : Bool) (old : Memory) where
   device_alike : (b : Bus) (k : Memory) (a : Access) → Agree (sees m z) b.memory k →
       is_to_device (with_memory_of b k) a ≡ is_to_device b a
   device_alike b k a looks =
-      ap (λ (there : Bool). (is_load a.kind || is_store a.kind) && (not there && have b.system.devices a.address))
+      ap (λ (there : Bool). (is_load a.kind || is_store a.kind)
+      && (not there && has_device_at b.system.devices a.address))
       (in_memory_alike (sees m z) b.memory k a.address (bytes_in a.size) looks)
 
   carried_alike : (x : ℕ) (b : Bus) (k : Memory) (rule : Rule) (q : Request) → IsOfTask q → Alike b k →

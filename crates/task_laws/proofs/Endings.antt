@@ -9,7 +9,7 @@ use Rattle.reference.specs.Run.{after, events_of}
 use Rattle.reference.specs.State.{State}
 use Rattle.task_laws.specs.declared.task.TaskEnd.{TaskEnd}
 use Rattle.task_laws.specs.declared.task.TaskEnd.TheVariants as task_end
-use Rattle.task_laws.specs.Foresight.{is_instruction, is_instruction_next, kind_unless_stopped}
+use Rattle.task_laws.specs.NextStep.{is_instruction, is_instruction_next, kind_unless_stopped}
 use Rattle.task_laws.specs.Sight.{Same}
 use Rattle.task_laws.specs.TaskLaw.{EndsAfter, EndsInOneWay, TwoRunsLaw}
 use Rattle.task_laws.specs.Tasks.{AreInstructions, EndsTask, is_task}

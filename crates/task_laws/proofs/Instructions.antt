@@ -8,10 +8,10 @@ use Rattle.platform.specs.Priorities.{candidate}
 use Rattle.reference.specs.State.{State, stopped, ticked}
 use Rattle.reference.specs.Step.{completed, instruction, phase, sleeps_on, step, unless_stopped}
 use Rattle.platform.specs.Time.{last_tick}
-use Rattle.task_laws.specs.declared.foresight.StepKind.{StepKind}
-use Rattle.task_laws.specs.declared.foresight.StepKind.TheVariants as kind
-use Rattle.task_laws.specs.Foresight.{kind_after, kind_of_running, kind_unless_stopped, next_kind_of, is_instruction}
-use Rattle.task_laws.specs.Foresight.{is_instruction_next}
+use Rattle.task_laws.specs.declared.next_step.StepKind.{StepKind}
+use Rattle.task_laws.specs.declared.next_step.StepKind.TheVariants as kind
+use Rattle.task_laws.specs.NextStep.{kind_after, kind_of_running, kind_unless_stopped, next_kind_of, is_instruction}
+use Rattle.task_laws.specs.NextStep.{is_instruction_next}
 
 -- the next step is an Instruction step: the machine hasn't stopped, the clock isn't at its end, it isn't in the entry
 -- phase, and after the tick it has no candidate and doesn't sleep on

@@ -15,7 +15,7 @@ use Rattle.reference.specs.Step.{step}
 use Rattle.state_laws.proofs.Ends.{step_keeps}
 use Rattle.task_laws.specs.declared.task.TaskEnd.{TaskEnd}
 use Rattle.task_laws.specs.declared.task.TaskEnd.TheVariants as task_end
-use Rattle.task_laws.specs.Foresight.{is_instruction_next}
+use Rattle.task_laws.specs.NextStep.{is_instruction_next}
 use Rattle.task_laws.specs.Sight.{sees, is_seen, AgreeBut, Same, KeepsDenied, with_memory}
 use Rattle.task_laws.specs.TaskLaw.{IsOfTask, performed_in, AccessAlike, AccessLaw, StepLaw, RunAlike, RunLaw}
 use Rattle.task_laws.specs.TaskLaw.{UnprivilegedRunLaw, EndsAlike}

@@ -42,7 +42,8 @@ use Rattle.platform.specs.Regions.{Mpu, IsSound}
 use Rattle.platform.specs.SpecialRegisters.{write_special}
 use Rattle.reference.specs.State.{Bus, State, Stepped, ticked, with_bus, with_system, with_registers, with_exceptions}
 use Rattle.platform.specs.Status.{Status}
-use Rattle.reference.specs.Step.{ended, finished, served, performed_all, planned, undefined_instruction, executed}
+use Rattle.reference.specs.Step.{ended, finished, after_accesses, performed_all, planned, undefined_instruction}
+use Rattle.reference.specs.Step.{executed}
 use Rattle.reference.specs.Step.{fetched_second, with_second, fetched_first, instruction, step, traps}
 use Rattle.platform.specs.System.{System}
 use Rattle.state_laws.proofs.Effects.{IsEndIn, Leaves, register_kept, advances_kept, result_kept}
@@ -204,7 +205,7 @@ module _ (m : Mpu) (z : Bool) (old : Memory) where
   -- `all` is what its accesses left, and the other run has the memory `new` after them
   served_alike : (events : List Event) (i : CodedInstruction) (all : ListResult) (end : Option Failure) (s : State)
       (k new : Memory) → Ready s k → Alike m z old all.bus new →
-      SameStep (served s events i all end) (served (with_memory s k) events i (list_with all new) end)
+      SameStep (after_accesses s events i all end) (after_accesses (with_memory s k) events i (list_with all new) end)
   served_alike events i all None s k new r alike =
       finished_alike (events ++ all.events) (result_of i s.registers all.values)
       (result_kept writes_kept i s.registers all.values r.thread) (with_bus s all.bus) new
@@ -222,8 +223,8 @@ module _ (m : Mpu) (z : Bool) (old : Memory) where
       let two = perform_all x tick (with_memory_of s.bus k) qs in
       let both : SameList m z old one two = all_alike m z old x tick s.bus k qs r.sound of r.alike in
       subst
-      (λ (all : ListResult). SameStep (served s events i one one.failure)
-      (served (with_memory s k) events i all all.failure))
+      (λ (all : ListResult). SameStep (after_accesses s events i one one.failure)
+      (after_accesses (with_memory s k) events i all all.failure))
       (sym both.rest) (served_alike events i one one.failure s k two.bus.memory r both.alike)
 
   planned_alike : (events : List Event) (i : CodedInstruction) (asked : Result (List Request) Failure) →

@@ -6,7 +6,8 @@ use Rattle.instruction_set.specs.declared.system.SpecialRegister.{SpecialRegiste
 use Rattle.instruction_set.specs.declared.system.SpecialRegister.TheVariants.{Apsr, Iapsr, Eapsr, Xpsr}
 use Rattle.instruction_set.specs.Registers.{Registers, is_handler, is_privileged}
 use Rattle.platform.specs.Priorities.{Nvic}
-use Rattle.platform.specs.SpecialRegisters.{is_open, with_special, write_special, write_mask, change_state}
+use Rattle.platform.specs.SpecialRegisters.{is_written_unprivileged, with_special, write_special, write_mask}
+use Rattle.platform.specs.SpecialRegisters.{change_state}
 use Rattle.state_laws.proofs.Effects.{KeepsWrites}
 
 -- IPSR is 0 and CONTROL.nPRIV is 1
@@ -47,7 +48,8 @@ writes_kept = record {
 
 -- ---- MSR and CPS
 
-open_kept : (r : Registers) (special : SpecialRegister) (value : ℕ) → is_open special ≡ true → IsUnprivileged r →
+open_kept : (r : Registers) (special : SpecialRegister) (value : ℕ) → is_written_unprivileged special ≡ true
+    → IsUnprivileged r →
     IsUnprivileged (with_special r special value)
 unfolding with_special
 open_kept r Apsr value e u = same_mode r _ refl refl u
@@ -62,7 +64,7 @@ pub special_kept : (r : Registers) (special : SpecialRegister) (value : ℕ) →
 unfolding write_special
 special_kept r special value u =
     rw (unprivileged_is r u)
-    (cond_both (is_open special) _ _ IsUnprivileged (λ e. open_kept r special value e u) (λ e. u))
+    (cond_both (is_written_unprivileged special) _ _ IsUnprivileged (λ e. open_kept r special value e u) (λ e. u))
 
 -- MSR writes no mask
 pub mask_kept : (r : Registers) (n : Nvic) (special : SpecialRegister) (value : ℕ) → IsUnprivileged r →

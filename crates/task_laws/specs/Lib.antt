@@ -1,6 +1,6 @@
 -- What a task is, and the laws of tasks. The step and its phases are in the crate `reference`.
 pub use Rattle.reference.specs.Step
-pub mod Foresight
+pub mod NextStep
 pub mod Tasks
 pub mod Sight
 pub mod TaskLaw

@@ -16,7 +16,7 @@ use Rattle.reference.specs.Run.{after, events_of}
 use Rattle.reference.specs.State.{State, with_bus}
 use Rattle.reference.specs.Step.{step}
 use Rattle.task_laws.specs.declared.task.TaskEnd.{TaskEnd}
-use Rattle.task_laws.specs.Foresight.{is_instruction_next}
+use Rattle.task_laws.specs.NextStep.{is_instruction_next}
 use Rattle.task_laws.specs.Sight.{KeepsDenied, Same}
 use Rattle.task_laws.specs.Tasks.{AreInstructions, EndsTask, is_task, runs_unprivileged}
 

@@ -10,7 +10,7 @@ use Rattle.reference.specs.State.{State}
 use Rattle.platform.specs.System.{System}
 use Rattle.task_laws.specs.declared.task.TaskEnd.{TaskEnd}
 use Rattle.task_laws.specs.declared.task.TaskEnd.TheVariants as task_end
-use Rattle.task_laws.specs.Foresight.{is_instruction_next}
+use Rattle.task_laws.specs.NextStep.{is_instruction_next}
 
 -- whether the regions decide: MPU_CTRL.ENABLE is 1, and HFNMIENA is 1 or the execution priority isn't below 0
 abbrev pub uses_regions : System → Bool

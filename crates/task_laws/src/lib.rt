@@ -2,7 +2,7 @@
 //! contract of a function that does nothing.
 #![tactic(auto)]
 
-mod foresight;
+mod next_step;
 mod task;
 
 ghost use Rattle.std.specs.Prelude.{ℕ};
@@ -13,7 +13,7 @@ ghost use Rattle.task_laws.specs.TaskLaw.{AccessLaw, EndsAlike, EndsInOneWay, Re
 ghost use Rattle.task_laws.specs.TaskLaw.{TwoRunsLaw, UnprivilegedRunLaw};
 ghost use Rattle.task_laws.specs.declared.task.TaskEnd.{TaskEnd as End};
 
-pub use foresight::StepKind;
+pub use next_step::StepKind;
 pub use task::TaskEnd;
 
 /// An access of unprivileged code, of a kind and at an address that an instruction of such code uses, has

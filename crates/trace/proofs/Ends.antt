@@ -5,7 +5,7 @@ use Rattle.std.proofs.lemmas.Bool.{eqb-true}
 use Rattle.std.proofs.lemmas.List.{take-append-le}
 use Rattle.std.specs.Prelude.{codes}
 use Rattle.platform.specs.declared.access.Rule.{Rule}
-use Rattle.platform.specs.declared.access.Rule.TheVariants.{NeverExecute, VectorRead, PrivatePeripheralBus, MpuOff}
+use Rattle.platform.specs.declared.access.Rule.TheVariants.{ExecuteNever, VectorRead, PrivatePeripheralBus, MpuOff}
 use Rattle.platform.specs.declared.access.Rule.TheVariants.{NegativePriority, Region, Background, NoRegion}
 use Rattle.platform.specs.Rules.{rank}
 use Rattle.platform.specs.Text.{privilege_text}
@@ -13,7 +13,7 @@ use Rattle.trace.specs.Ends.{end_text, fetch_end, fits_number, rule_of}
 
 -- a rank and a number have one rule
 pub same_rule : (number place : ℕ) (r : Rule) → place ≡ rank r → fits_number number r ≡ true → rule_of place number ≡ r
-same_rule number place NeverExecute e h = ap (λ p. rule_of p number) e
+same_rule number place ExecuteNever e h = ap (λ p. rule_of p number) e
 same_rule number place VectorRead e h = ap (λ p. rule_of p number) e
 same_rule number place PrivatePeripheralBus e h = ap (λ p. rule_of p number) e
 same_rule number place MpuOff e h = ap (λ p. rule_of p number) e

@@ -17,7 +17,8 @@ use Rattle.reference.specs.Step.{step}
 use Rattle.platform.specs.Events.{line, lines}
 use Rattle.trace.specs.declared.selection.TraceSelection.{TraceSelection}
 use Rattle.trace.specs.declared.selection.TraceSelection.TheVariants as which
-use Rattle.trace.specs.Selection.{has_faulty_steps, has_refusal, is_done_access, kinds_text, last_printed, of_kinds}
+use Rattle.trace.specs.Selection.{has_faulty_steps, has_refusal_or_fault, is_done_access, kinds_text, last_printed}
+use Rattle.trace.specs.Selection.{of_kinds}
 use Rattle.trace.specs.Selection.{printed, selected_text, selected_trace, selects, steps_text, text_as, writes_bytes}
 
 -- the lines of more events follow those of the first
@@ -62,7 +63,7 @@ pub by_kinds : (selection : TraceSelection) (events : List Event) → has_faulty
     → selected_text selection events ≡ kinds_text selection events
 by_kinds selection events other =
     ap
-    (λ (b : Bool). text_as selection (if b && has_refusal events then events else of_kinds selection events))
+    (λ (b : Bool). text_as selection (if b && has_refusal_or_fault events then events else of_kinds selection events))
     other
 
 -- of no events nothing is selected
@@ -130,7 +131,7 @@ all_lines events = ap lines (all_of_kinds events)
 
 -- the text of a step that a selection has whole
 pub whole_step : (selection : TraceSelection) (events : List Event) → has_faulty_steps selection ≡ true
-    → has_refusal events ≡ true → kinds_text which.All events ≡ selected_text selection events
+    → has_refusal_or_fault events ≡ true → kinds_text which.All events ≡ selected_text selection events
 whole_step which.All events has refused = absurd cc
 whole_step which.Refused events has refused = absurd cc
 whole_step which.Faults events has refused =
@@ -142,7 +143,7 @@ whole_step which.Nothing events has refused = absurd cc
 
 -- the text of another step
 pub other_step : (selection : TraceSelection) (events : List Event)
-    → (has_faulty_steps selection && has_refusal events) ≡ false
+    → (has_faulty_steps selection && has_refusal_or_fault events) ≡ false
     → kinds_text selection events ≡ selected_text selection events
 other_step selection events other =
     sym (ap (λ (b : Bool). text_as selection (if b then events else of_kinds selection events)) other)
@@ -161,7 +162,11 @@ steps_joined text none more (suc n) s =
 pub all_traced : (n : ℕ) (s : State) → selected_trace which.All n s ≡ trace n s
 unfolding selected_trace trace
 all_traced n s =
-    rw (steps_joined (kinds_text which.All) (kinds-nil which.All) (kinds-append which.All) n s, all_lines (events_of n s))
+    rw (
+      steps_joined (kinds_text which.All) (kinds-nil which.All) (kinds-append which.All) n s,
+      all_lines
+          (events_of n s),
+    )
     refl
 
 -- the text of one event of another kind

@@ -20,8 +20,8 @@ use Rattle.trace.specs.declared.selection.TraceSelection.TheVariants as which
 -- ---- the events of a step
 
 -- an access that was refused, or a fault that was recorded
-abbrev pub is_refusal : EventKind → Bool
-is_refusal what = is_refused what || is_some (recorded_fault_of what)
+abbrev pub is_refusal_or_fault : EventKind → Bool
+is_refusal_or_fault what = is_refused what || is_some (recorded_fault_of what)
 
 -- whether an exception is HardFault, MemManage, BusFault or UsageFault
 abbrev pub handles_faults : ℕ → Bool
@@ -39,9 +39,9 @@ enters_fault_handler (FaultRecorded fault) = false
 -- whether a selection has each event of that kind, in whichever step
 abbrev pub selects : TraceSelection → EventKind → Bool
 selects which.All what = true
-selects which.Refused what = is_refusal what
+selects which.Refused what = is_refusal_or_fault what
 selects which.Faults what = enters_fault_handler what
-selects which.Exceptions what = is_refusal what || is_entry_or_return what
+selects which.Exceptions what = is_refusal_or_fault what || is_entry_or_return what
 selects which.Console what = is_some (byte_of what)
 selects which.Nothing what = false
 
@@ -55,8 +55,8 @@ has_faulty_steps which.Console = false
 has_faulty_steps which.Nothing = false
 
 -- whether an access was refused or a fault was recorded
-abbrev pub has_refusal : List Event → Bool
-has_refusal events = list_any (λ e. is_refusal e.what) events
+abbrev pub has_refusal_or_fault : List Event → Bool
+has_refusal_or_fault events = list_any (λ e. is_refusal_or_fault e.what) events
 
 -- an access that was done
 abbrev pub is_done_access : Event → Bool
@@ -70,7 +70,7 @@ of_kinds selection events = filter (λ e. selects selection e.what) events
 -- those of the kinds that it has
 abbrev pub selected_events : TraceSelection → List Event → List Event
 selected_events selection events =
-    if has_faulty_steps selection && has_refusal events then events else of_kinds selection events
+    if has_faulty_steps selection && has_refusal_or_fault events then events else of_kinds selection events
 
 -- ---- their text
 

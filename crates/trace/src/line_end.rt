@@ -142,7 +142,7 @@ fn end_of(rule: Rule) -> Option<([u8; 8], usize)>
     ensures text { IfSome result (λ e. take e.1 e.0 ≡ end_text rule) }
 {
     match rule {
-        Rule::NeverExecute => Some((*b" ok xn\n ", 7)),
+        Rule::ExecuteNever => Some((*b" ok xn\n ", 7)),
         Rule::VectorRead => Some((*b" ok vec\n", 8)),
         Rule::PrivatePeripheralBus => Some((*b" ok ppb\n", 8)),
         Rule::MpuOff => Some((*b" ok off\n", 8)),
@@ -180,7 +180,7 @@ fn rank_of(rule: Rule) -> u8
     ensures { result ≡ rank rule }
 {
     match rule {
-        Rule::NeverExecute => 0,
+        Rule::ExecuteNever => 0,
         Rule::VectorRead => 1,
         Rule::PrivatePeripheralBus => 2,
         Rule::MpuOff => 3,

@@ -295,7 +295,7 @@ impl<const ROOM: usize> Page<ROOM> {
         ensures short { length self.new ≤ length self.old + 21 }
     {
         match rule {
-            Rule::NeverExecute => self.put(b"xn"),
+            Rule::ExecuteNever => self.put(b"xn"),
             Rule::VectorRead => self.put(b"vec"),
             Rule::PrivatePeripheralBus => self.put(b"ppb"),
             Rule::MpuOff => self.put(b"off"),

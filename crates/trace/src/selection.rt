@@ -3,7 +3,7 @@
 ghost use Rattle.std.specs.Prelude.{◌≡◌, true, false, List, [], ◌∷◌, ◌++◌, is_some};
 ghost use Rattle.platform.specs.declared.event.Event.{Event};
 ghost use Rattle.trace.specs.Selection.{enters_fault_handler, handles_faults, has_faulty_steps};
-ghost use Rattle.trace.specs.Selection.{has_refusal, is_done_access, is_refusal};
+ghost use Rattle.trace.specs.Selection.{has_refusal_or_fault, is_done_access, is_refusal_or_fault};
 ghost use Rattle.trace.specs.declared.selection.TraceSelection.TheVariants as which;
 ghost use Rattle.trace.specs.Selection.{kinds_text, last_printed, selected_text, selects, writes_bytes};
 
@@ -35,9 +35,9 @@ impl TraceSelection {
     {
         match self {
             TraceSelection::All => true,
-            TraceSelection::Refused => is_refusal(what),
+            TraceSelection::Refused => is_refusal_or_fault(what),
             TraceSelection::Faults => enters_fault_handler(what),
-            TraceSelection::Exceptions => is_refusal(what) || what.is_entry_or_return(),
+            TraceSelection::Exceptions => is_refusal_or_fault(what) || what.is_entry_or_return(),
             TraceSelection::Console => what.byte().is_some(),
             TraceSelection::Nothing => false,
         }
@@ -80,7 +80,7 @@ impl TraceSelection {
     pub fn of_step(self, events: &[Event]) -> TraceSelection
         ensures { kinds_text result events.now ≡ selected_text self events.now }
     {
-        if self.has_faulty_steps() && has_refusal(events) {
+        if self.has_faulty_steps() && has_refusal_or_fault(events) {
             TraceSelection::All
         } else {
             self
@@ -138,8 +138,8 @@ impl TraceSelection {
 
 /// Returns whether an event is an access that was refused or a fault that was recorded.
 #[inline(always)]
-fn is_refusal(what: &EventKind) -> bool
-    ensures { result ≡ is_refusal what.now }
+fn is_refusal_or_fault(what: &EventKind) -> bool
+    ensures { result ≡ is_refusal_or_fault what.now }
 {
     what.is_refused() || what.recorded_fault().is_some()
 }
@@ -167,11 +167,11 @@ fn handles_faults(exception: u16) -> bool
 }
 
 /// Returns whether one of the events is an access that was refused or a fault that was recorded.
-fn has_refusal(events: &[Event]) -> bool
-    ensures { result ≡ has_refusal events.now }
+fn has_refusal_or_fault(events: &[Event]) -> bool
+    ensures { result ≡ has_refusal_or_fault events.now }
 {
     'events: for event in events {
-        if is_refusal(&event.what) {
+        if is_refusal_or_fault(&event.what) {
             return true;
         }
     }

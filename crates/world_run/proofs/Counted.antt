@@ -9,7 +9,7 @@ use Rattle.reference.specs.Step.{step}
 use Rattle.machine.proofs.Running.{after_more, after_stop, all_made}
 use Rattle.machine.specs.MachineModel.{MachineModel}
 use Rattle.access_map.specs.Counting.{Worlds}
-use Rattle.task_laws.specs.Foresight.{is_instruction, is_instruction_next, kind_unless_stopped}
+use Rattle.task_laws.specs.NextStep.{is_instruction, is_instruction_next, kind_unless_stopped}
 use Rattle.world_run.specs.WorldRuns.{runs_in_world, with_step, worlds_after}
 
 pub none_made : (m : MachineModel) → m ≡ record m { state = after 0 m.state }

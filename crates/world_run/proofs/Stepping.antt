@@ -1,5 +1,6 @@
 -- A step that is counted, and the registers of the MPU after a step.
-use Rattle.std.proofs.Common.{◌≡◌, ◌∙◌, refl, sym, ap, ℕ, ◌+◌, ◌<◌, ◌^◌, nat_le, Bool, true, false, List, [], ◌∷◌, arith}
+use Rattle.std.proofs.Common.{◌≡◌, ◌∙◌, refl, sym, ap, ℕ, ◌+◌, ◌<◌, ◌^◌, nat_le, Bool, true, false, List, [], ◌∷◌}
+use Rattle.std.proofs.Common.{arith}
 use Rattle.std.proofs.lemmas.Bool.Decides.{nat_tests}
 use Rattle.access_map.specs.Counting.{Worlds, counted}
 use Rattle.access_map.specs.declared.world.World.{World}
@@ -15,7 +16,7 @@ use Rattle.step_laws.proofs.Settling.{settled_part}
 use Rattle.survey.proofs.Regions.{regions_stay}
 use Rattle.survey.specs.RegionLaw.{some_writes_system}
 use Rattle.task_laws.proofs.Instructions.{instruction_is}
-use Rattle.task_laws.specs.Foresight.{is_instruction_next}
+use Rattle.task_laws.specs.NextStep.{is_instruction_next}
 use Rattle.world_run.specs.WorldRuns.{next_tick, world_of}
 
 -- after a step without such a write the registers of the MPU are as before

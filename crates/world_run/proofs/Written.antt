@@ -4,7 +4,7 @@ use Rattle.std.proofs.Math.Bool.{or-false}
 use Rattle.std.proofs.lemmas.List.{map-append}
 use Rattle.platform.specs.declared.event.Event.{Event}
 use Rattle.survey.specs.RegionLaw.{some_writes_system, writes_system}
-use Rattle.world_run.specs.Seen.{events_of}
+use Rattle.world_run.specs.CountModel.{events_of}
 
 -- the events of one pair more
 pub more_events : (items later : List (Unit {0} × Event)) (e : Event) → later ≡ items ++ (tt, e) ∷ []

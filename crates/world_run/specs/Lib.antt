@@ -1,2 +1,2 @@
 pub mod WorldRuns
-pub mod Seen
+pub mod CountModel

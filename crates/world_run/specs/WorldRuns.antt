@@ -6,7 +6,7 @@ use Rattle.instruction_set.specs.Registers.{is_handler}
 use Rattle.platform.specs.Priorities.{is_below_zero}
 use Rattle.reference.specs.Run.{after}
 use Rattle.reference.specs.State.{State, ticked}
-use Rattle.task_laws.specs.Foresight.{is_instruction_next}
+use Rattle.task_laws.specs.NextStep.{is_instruction_next}
 
 -- the world of a state: the registers of the MPU, and whether the execution priority is below 0
 abbrev pub world_of : State → World

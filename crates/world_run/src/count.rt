@@ -1,7 +1,7 @@
 //! A count of the steps that run in each world.
 
 ghost use Rattle.std.specs.Prelude.{◌≡◌, false, true};
-ghost use Rattle.task_laws.specs.Foresight.{is_instruction_next};
+ghost use Rattle.task_laws.specs.NextStep.{is_instruction_next};
 ghost use Rattle.access_map.specs.Counting.{counted};
 ghost use Rattle.world_run.specs.WorldRuns.{next_tick, with_step, world_of};
 
@@ -21,9 +21,9 @@ pub struct WorldCount {
 }
 
 impl Model for WorldCount {
-    ghost use Rattle.world_run.specs.Seen.{Counting, IsPlaceOf};
+    ghost use Rattle.world_run.specs.CountModel.{CountModel, IsPlaceOf};
 
-    ghost Value = { Counting };
+    ghost Value = { CountModel };
 
     ghost view = { λ c. record { worlds = c.worlds; mpu = c.world.registers } };
 

@@ -51,6 +51,6 @@ fn world_step<D: Decider, C: KeptCode, L: Exceptions, U: SysTickState>(
 {
     count.count_next(machine);
     let mut writes = SystemWrites::new();
-    machine.step_into(&mut writes);
+    machine.step_with_sink(&mut writes);
     count.follow(machine, writes.some());
 }

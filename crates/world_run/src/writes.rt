@@ -2,7 +2,7 @@
 
 ghost use Rattle.std.specs.Prelude.{◌≡◌, [], ◌||◌};
 ghost use Rattle.survey.specs.RegionLaw.{some_writes_system, writes_system};
-ghost use Rattle.world_run.specs.Seen.{emission, events_of};
+ghost use Rattle.world_run.specs.CountModel.{emission, events_of};
 
 use output::History;
 use platform::event::{Event, EventKind};

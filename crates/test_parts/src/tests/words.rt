@@ -33,7 +33,7 @@ const SIZES: [(&str, Size); 3] = [
 
 /// The rules but for those of regions.
 const RULES: [Rule; 7] = [
-    Rule::NeverExecute,
+    Rule::ExecuteNever,
     Rule::VectorRead,
     Rule::PrivatePeripheralBus,
     Rule::MpuOff,
@@ -48,7 +48,7 @@ const REGIONS: &str = "r0 r1 r2 r3 r4 r5 r6 r7 r8 r9 rA rB rC rD rE rF";
 /// The word of a rule.
 pub(super) fn rule_word(rule: Rule) -> &'static str {
     match rule {
-        Rule::NeverExecute => "xn",
+        Rule::ExecuteNever => "xn",
         Rule::VectorRead => "vec",
         Rule::PrivatePeripheralBus => "ppb",
         Rule::MpuOff => "off",

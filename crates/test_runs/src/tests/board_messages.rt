@@ -2,7 +2,7 @@
 
 use super::cut::Cut;
 use super::files::{Ended, Ends, FIRST, NO_INPUT, RUN_WORDS, SMALL};
-use command::{refuse_words, words};
+use command::{refuse_args, words};
 use std::env::FillError;
 use std::rt::Env;
 use std::test::*;
@@ -479,7 +479,7 @@ fn a_word_that_is_no_text_is_numbered(rt: HostRuntime) -> Result<(), Fail> {
     let mut err = Cut::whole();
     let status = match words(&(Given, rt.alloc())) {
         Ok(_) => 0,
-        Err(error) => refuse_words(&error, &mut err),
+        Err(error) => refuse_args(&error, &mut err),
     };
     let text =
         b"marm: usage\n  argument 2 isn't a text in UTF-8 (the program's name is argument 0)\n";

@@ -6,7 +6,7 @@ use super::cut::{Cut, ROOM, Short, Text, push_line};
 use super::elf_files::ElfFile;
 use board::BoardError;
 use command::{
-    Error, FileError, InputFile, WordsError, answer, program, read_file, refuse_words, write_error,
+    ArgsError, Error, FileError, InputFile, answer, program, read_file, refuse_args, write_error,
     write_reason,
 };
 use command_line::AFTER_DEBUG;
@@ -662,7 +662,7 @@ fn a_version_that_cannot_be_written_is_io(rt: HostRuntime) -> Result<(), Fail> {
 }
 
 /// Answers arguments that ask for no subcommand.
-fn answer_to<K: Ledger>(error: WordsError, out: &mut Cut, err: &mut Cut, blank: Blank) -> u8
+fn answer_to<K: Ledger>(error: ArgsError, out: &mut Cut, err: &mut Cut, blank: Blank) -> u8
     requires name { blank.name ≡ K.name }
     requires parts { blank.parts ≡ K.parts }
     requires some { blank.parts ≡ 1 }
@@ -675,7 +675,7 @@ fn answer_to<K: Ledger>(error: WordsError, out: &mut Cut, err: &mut Cut, blank: 
 fn words_without_memory_are_io(rt: HostRuntime) {
     let mut out = Cut::whole();
     let mut err = Cut::whole();
-    let status = answer_to::<Brand>(WordsError::OutOfMemory, &mut out, &mut err, Blank::new(1));
+    let status = answer_to::<Brand>(ArgsError::OutOfMemory, &mut out, &mut err, Blank::new(1));
     assert!(rt; status == 5 && out.text.is_empty());
     let line = b"marm: io\n  no memory was found for the arguments\n";
     assert!(rt; err.text.as_slice() == line.as_slice());
@@ -684,7 +684,7 @@ fn words_without_memory_are_io(rt: HostRuntime) {
 #[test]
 fn words_that_cannot_be_read_are_io(rt: HostRuntime) {
     let mut err = Cut::whole();
-    let status = refuse_words(&io::Error::from(io::ErrorKind::OutOfMemory), &mut err);
+    let status = refuse_args(&io::Error::from(io::ErrorKind::OutOfMemory), &mut err);
     assert!(rt; status == 5);
     assert!(rt; err.text.as_slice() == b"marm: io\n  the arguments: out of memory\n".as_slice());
 }

@@ -6,7 +6,7 @@ use super::cut::Cut;
 use super::files::{FIRST, NO_INPUT};
 use board::{BoardError, read_board};
 use command::{FileError, program, read_file, words};
-use command_line::{Subcommand, WordsError, subcommand_of};
+use command_line::{ArgsError, Subcommand, subcommand_of};
 use elf::{Image, load};
 use machine::{
     BitLevels, Board, BoardDecodeTable, Decider, DecodeEachTime, EagerSysTick, Exceptions,
@@ -350,8 +350,8 @@ fn answer_of(subcommand: &Subcommand<'_>) -> Answer {
 }
 
 /// The arguments weren't read: memory ran out, or that is wrong.
-fn refusal_of(error: &WordsError) -> Answer {
-    if matches!(error, WordsError::OutOfMemory) {
+fn refusal_of(error: &ArgsError) -> Answer {
+    if matches!(error, ArgsError::OutOfMemory) {
         Answer::Refused
     } else {
         Answer::Wrong

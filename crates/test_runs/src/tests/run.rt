@@ -226,10 +226,10 @@ fn shown<D: Decider, C: KeptCode, L: Exceptions, U: SysTickState>(
     address: u32,
 ) -> Option<u32> {
     Some(u32::from_le_bytes([
-        machine.shown(address)?,
-        machine.shown(address.wrapping_add(1))?,
-        machine.shown(address.wrapping_add(2))?,
-        machine.shown(address.wrapping_add(3))?,
+        machine.peek_memory_or_device(address)?,
+        machine.peek_memory_or_device(address.wrapping_add(1))?,
+        machine.peek_memory_or_device(address.wrapping_add(2))?,
+        machine.peek_memory_or_device(address.wrapping_add(3))?,
     ]))
 }
 

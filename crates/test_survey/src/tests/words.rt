@@ -28,7 +28,7 @@ const OUTCOMES: [(&str, Option<Cause>); 3] = [
 ];
 
 const RULES: [(&str, Rule); 9] = [
-    ("xn", Rule::NeverExecute),
+    ("xn", Rule::ExecuteNever),
     ("vec", Rule::VectorRead),
     ("ppb", Rule::PrivatePeripheralBus),
     ("off", Rule::MpuOff),

@@ -1,7 +1,7 @@
 use Rattle.std.proofs.Common.{◌≡◌, ◌⊎◌, inl, inr, ◌∙◌, sym, ap, arith, IsSome}
 use Rattle.machine.proofs.Running.{ends_so}
 use Rattle.machine.specs.MachineModel.{MachineModel}
-use Rattle.world_run.specs.Seen.{Counting}
+use Rattle.world_run.specs.CountModel.{CountModel}
 use Rattle.world_run.proofs.Counted.{all_counted, counted_on, machine_on, none_counted, none_made, whole_made}
 use Rattle.world_run.proofs.world_run.Goals as goal
 use Rattle.world_run.proofs.world_run.Goals.{else-steps-test, then-steps-test+then-is_some}
@@ -11,9 +11,9 @@ steps-init g c = record {
   few = omega arith;
   machine = none_made c.args.machine.now;
   counted =
-      ap (λ (k : Counting). k.worlds) c.begin.ensures
+      ap (λ (k : CountModel). k.worlds) c.begin.ensures
       ∙ sym (none_counted c.args.machine.now.state c.args.count.now.worlds);
-  mpu = ap (λ (k : Counting). k.mpu) c.begin.ensures;
+  mpu = ap (λ (k : CountModel). k.mpu) c.begin.ensures;
 }
 
 pub steps-preserved : goal.steps-preserved

@@ -7,8 +7,8 @@ use Rattle.output.specs.Output.{Writing, with_page}
 pub returns : goal.returns
 returns g c =
     let ahead =
-    drop c.do_words-status.new.input.at (take c.do_words-status.new.input.end c.do_words-status.new.input.bytes) in
-    let lost = drop c.do_words-status.new.out.at c.do_words-status.new.out.page in
+    drop c.do_args-status.new.input.at (take c.do_args-status.new.input.end c.do_args-status.new.input.bytes) in
+    let lost = drop c.do_args-status.new.out.at c.do_args-status.new.out.page in
     does_over_streams _ _ _ _ _ _ _ _ _ _ ahead lost
     (nothing_ahead _ _ _ _ _ c.new-input-2.ensures.empty.0 c.new-input-2.ensures.empty.1
     (ap (λ o. g.I.Read.remaining o.inner.inner) c.new-input-2.ensures.inner
@@ -23,4 +23,4 @@ returns g c =
     (ap (λ o.
     let w : Writing = record { written = g.W.Write.contents o.inner.inner; errors = o.book.total; waits = [] } in
     with_page lost w) (sym c.into_inner-2.ensures))
-    c.do_words-status.ensures
+    c.do_args-status.ensures

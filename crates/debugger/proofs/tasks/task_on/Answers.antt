@@ -1,7 +1,7 @@
 use Rattle.std.proofs.Common.{◌≡◌, ◌⊎◌, inl, inr, true, false, Option, nat_lt, ◌∙◌, sym, ap, arith}
 use Rattle.debugger.proofs.Tasking.{task_cut, task_ends, task_more}
 use Rattle.serving.proofs.Delivering.{delivers_nothing, delivers_rest}
-use Rattle.machine.specs.Foresight.{is_instruction, is_instruction_next}
+use Rattle.machine.specs.NextStep.{is_instruction, is_instruction_next}
 use Rattle.machine.specs.Tasks.{end_of}
 use Rattle.platform.specs.declared.stop.Stop.{Stop}
 use Rattle.debugger.proofs.tasks.task_on.Goals as goal

@@ -6,5 +6,5 @@ use Rattle.gdb.proofs.returns.arrive.Goals as goal
 pub returns-clause-same : goal.returns-clause-same
 returns-clause-same g c =
     rw c.make_steps_to.ensures.state (same_trans c.args.past.now.start c.restore.new.machine.state
-    (after c.args.spot.found.steps c.restore.new.machine.state) c.restore.ensures.same
-    (same_after c.args.spot.found.steps c.restore.new.machine.state))
+    (after c.args.target.found.steps c.restore.new.machine.state) c.restore.ensures.same
+    (same_after c.args.target.found.steps c.restore.new.machine.state))

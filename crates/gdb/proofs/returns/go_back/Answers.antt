@@ -1,6 +1,6 @@
 use Rattle.std.proofs.Common.{◌≡◌, ◌∙◌, ap, drop, slice_index_or, List}
 use Rattle.gdb.proofs.Returning.{asking_returns, found_returns, interrupted_returns, none_found, nothing_made}
-use Rattle.gdb.proofs.Returning.{spot_found}
+use Rattle.gdb.proofs.Returning.{target_found}
 use Rattle.gdb.proofs.Returning.{still_nothing}
 use Rattle.gdb.specs.Returns.{low_of}
 use Rattle.gdb.specs.Searches.{Place, events_for, place_of}
@@ -17,7 +17,8 @@ end_return-requires g c = nothing_made c.new-progress.result c.new-progress.ensu
 -- GDB's user has interrupted
 pub returns-then-search-clause-returns : goal.returns-then-search-clause-returns
 returns-then-search-clause-returns g c =
-    interrupted_returns c.args.terms.now.settings c.args.terms.now.points.now c.args.terms.now.features c.args.past.now
+    interrupted_returns c.args.context.now.settings c.args.context.now.points.now c.args.context.now.features
+    c.args.past.now
     c.args.search c.args.machine.now c.new-progress.result.events (g.W.Out.writing c.args.out.now)
     (g.W.Out.writing c.end_return.new.out) c.end_return.new.sent.items c.end_return.result c.if-search.true
     (ap (λ (p : Progress). p.events) c.new-progress.ensures) c.end_return.ensures.delivers c.end_return.ensures.outcome
@@ -33,26 +34,26 @@ returns-then-search-clause-same g c = same_refl c.args.machine.now.state
 pub end_return-requires-in-Some : goal.end_return-requires-in-Some
 end_return-requires-in-Some g c =
     let s : State = c.args.machine.now.state in
-    let spot = c.in-Some.spot in
+    let target = c.in-Some.target in
     still_nothing c.new-progress.result c.arrive.new.progress
-    (events_for spot.found.reason (slice_index_or c.args.past.now.marks spot.number s) spot.found.steps)
+    (events_for target.found.reason (slice_index_or c.args.past.now.marks target.number s) target.found.steps)
     c.new-progress.ensures (c.arrive.ensures.events s)
 
 pub returns-in-Some-clause-returns : goal.returns-in-Some-clause-returns
 returns-in-Some-clause-returns g c =
     let s : State = c.args.machine.now.state in
-    let spot = c.in-Some.spot in
+    let target = c.in-Some.target in
     let marks : List State = c.args.past.now.marks in
-    let k = c.args.terms.now.settings in
-    let points = c.args.terms.now.points.now in
-    let features = c.args.terms.now.features in
+    let k = c.args.context.now.settings in
+    let points = c.args.context.now.points.now in
+    let features = c.args.context.now.features in
     found_returns k points features c.args.past.now c.arrive.new.past c.args.search s
-    (place_of (drop spot.number marks) (slice_index_or marks spot.number s) spot.found) c.args.machine.now
+    (place_of (drop target.number marks) (slice_index_or marks target.number s) target.found) c.args.machine.now
     c.arrive.new.machine c.arrive.new.progress.events (g.W.Out.writing c.args.out.now)
     (g.W.Out.writing c.end_return-in-Some.new.out) c.end_return-in-Some.new.sent.items c.end_return-in-Some.result
     c.if-search.false
-    (spot_found c.args.search.quest points k c.low_of-low.result (low_of features c.args.search.quest.end) s marks
-    c.place_back.result spot (c.place_back.ensures.place s) c.in-Some.is c.low_of-low.ensures)
+    (target_found c.args.search.scope points k c.low_of-low.result (low_of features c.args.search.scope.end) s marks
+    c.place_back.result target (c.place_back.ensures.place s) c.in-Some.is c.low_of-low.ensures)
     (ap (λ (m : MachineModel). m.state) (c.arrive.ensures.state s))
     (ap (λ (p : Progress). p.events) (c.arrive.ensures.events s)) c.arrive.ensures.past
     (ap (λ (m : MachineModel). m.broken) (c.arrive.ensures.state s) ∙ c.place_back.ensures.kept)
@@ -86,13 +87,13 @@ pub returns-in-None-clause-returns : goal.returns-in-None-clause-returns
 returns-in-None-clause-returns g c =
     let s : State = c.args.machine.now.state in
     let marks : List State = c.args.past.now.marks in
-    let k = c.args.terms.now.settings in
-    let points = c.args.terms.now.points.now in
-    let features = c.args.terms.now.features in
+    let k = c.args.context.now.settings in
+    let points = c.args.context.now.points.now in
+    let features = c.args.context.now.features in
     asking_returns k points features c.args.past.now c.args.search s c.take.new.self c.low_of-low.result
     c.args.machine.now c.place_back.new.machine c.ask.new.machine (g.W.Out.writing c.args.out.now)
     (g.W.Out.writing c.ask.new.out) c.ask.new.sent.items c.ask.result c.if-search.false
-    (none_found c.args.search.quest points k c.low_of-low.result (low_of features c.args.search.quest.end) s marks
+    (none_found c.args.search.scope points k c.low_of-low.result (low_of features c.args.search.scope.end) s marks
     c.place_back.result (c.place_back.ensures.place s) c.in-None.is c.low_of-low.ensures)
     c.low_of-low.ensures c.take.ensures c.place_back.ensures.kept c.ask.ensures.delivers c.ask.ensures.outcome
     c.ask.ensures.sent

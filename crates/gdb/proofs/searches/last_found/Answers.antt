@@ -28,7 +28,7 @@ steps-preserved g c =
           ∙ ap (λ (s : State). record m { state = s })
           (sym (after_more n (c.args.low + (c.steps.step + 1)) m.state (omega arith))));
       found = c.found_if-found.ensures
-          ∙ one_more c.args.quest c.args.points.now c.args.settings.now m.state c.steps.machine.state c.args.low
+          ∙ one_more c.args.scope c.args.points.now c.args.settings.now m.state c.steps.machine.state c.args.low
           c.steps.step (c.args.tick + (c.args.low + c.steps.step + 1)) (c.args.low + c.steps.step + 1)
           c.reason_there-reason.result c.steps.found (omega (arith, c.requires.tick)) (omega arith)
           (ap (λ (k : MachineModel). k.state) c.steps.invariant.machine) c.reason_there-reason.ensures.reason

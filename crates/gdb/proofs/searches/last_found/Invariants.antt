@@ -8,5 +8,5 @@ use Rattle.gdb.proofs.searches.last_found.Given as goal
 abbrev pub invariant-steps : goal.invariant-steps
 invariant-steps g l = record {
   machine : l.machine ≡ record l.fn.machine { state = after (l.low + l.step) l.fn.machine.state };
-  found : l.found ≡ last_found l.quest l.points l.settings l.fn.machine.state l.low l.step;
+  found : l.found ≡ last_found l.scope l.points l.settings l.fn.machine.state l.low l.step;
 }

@@ -1,6 +1,6 @@
 use Rattle.std.proofs.Common.{◌≡◌, ◌+◌, ◌∙◌, ◌<◌, ◌≤◌, ◌∷◌, ap, arith, drop, false, length, slice_index_or, sym, List}
 use Rattle.std.proofs.Common.{None, Some}
-use Rattle.gdb.specs.declared.searches.Quest.{Quest}
+use Rattle.gdb.specs.declared.searches.SearchScope.{SearchScope}
 use Rattle.gdb.proofs.Searching.{found_here, none_here, none_yet, passed_over, past_begins}
 use Rattle.gdb.specs.Searches.{found_from, place_back}
 use Rattle.gdb_past.proofs.Following.{same_trans}
@@ -8,7 +8,7 @@ use Rattle.gdb_past.specs.Places.{AreOfOneMachine, tick_of}
 use Rattle.machine.specs.MachineModel.{MachineModel}
 use Rattle.reference.specs.State.{State}
 use Rattle.gdb.proofs.searches.place_back.Goals as goal
-use Rattle.gdb.proofs.searches.place_back.Goals.{then-tick-quest+in_default+else-tick-low, else-tick-quest}
+use Rattle.gdb.proofs.searches.place_back.Goals.{then-tick-scope+in_default+else-tick-low, else-tick-scope}
 
 pub found_from-requires : goal.found_from-requires
 found_from-requires g c =
@@ -21,10 +21,10 @@ returns-in-Some-clause-place g c = λ s.
     let n = c.marks.number in
     let there : n < length marks = omega (arith, c.marks-test.true, c.count-number-end.ensures.count) in
     let at : c.tick-tick.result ≡ tick_of (slice_index_or marks n s) = c.tick-tick.ensures s in
-    found_here c.marks.quest c.args.points.now c.args.settings.now c.args.low n s marks c.in-Some.found there
-    (omega (arith, at, c.if-tick-quest.true))
+    found_here c.marks.scope c.args.points.now c.args.settings.now c.args.low n s marks c.in-Some.found there
+    (omega (arith, at, c.if-tick-scope.true))
     (sym c.in-Some.is ∙ (c.found_from.ensures.found
-    ∙ ap (λ (k : MachineModel). found_from c.marks.quest c.args.points.now c.args.settings.now c.args.low k.state)
+    ∙ ap (λ (k : MachineModel). found_from c.marks.scope c.args.points.now c.args.settings.now c.args.low k.state)
     (c.restore.ensures.state s)))
     ∙ c.marks.invariant.place s
 
@@ -47,10 +47,10 @@ returns-then-tick-low-clause-place g c = λ s.
     let n = c.marks.number in
     let there : n < length marks = omega (arith, c.marks-test.true, c.count-number-end.ensures.count) in
     let at : c.tick-tick.result ≡ tick_of (slice_index_or marks n s) = c.tick-tick.ensures s in
-    none_here c.marks.quest c.args.points.now c.args.settings.now c.args.low n s marks there
-    (omega (arith, at, c.if-tick-quest.true)) (omega (arith, at, c.if-tick-low.true))
+    none_here c.marks.scope c.args.points.now c.args.settings.now c.args.low n s marks there
+    (omega (arith, at, c.if-tick-scope.true)) (omega (arith, at, c.if-tick-low.true))
     (sym c.in_default.is ∙ (c.found_from.ensures.found
-    ∙ ap (λ (k : MachineModel). found_from c.marks.quest c.args.points.now c.args.settings.now c.args.low k.state)
+    ∙ ap (λ (k : MachineModel). found_from c.marks.scope c.args.points.now c.args.settings.now c.args.low k.state)
     (c.restore.ensures.state s)))
     ∙ c.marks.invariant.place s
 
@@ -69,17 +69,17 @@ marks-preserved g c =
     let marks : List State = c.args.past.now.marks in
     let n = c.marks.number in
     let there : n < length marks = omega (arith, c.marks-test.true, c.count-number-end.ensures.count) in
-    elim c.if-tick-quest.branch [
-      | then-tick-quest+in_default+else-tick-low w ↦ record {
+    elim c.if-tick-scope.branch [
+      | then-tick-scope+in_default+else-tick-low w ↦ record {
         place = λ s.
             let at : c.tick-tick.result ≡ tick_of (slice_index_or marks n s) = c.tick-tick.ensures s in
-            ap (λ (q : Quest). place_back q c.args.points.now c.args.settings.now c.args.low
+            ap (λ (q : SearchScope). place_back q c.args.points.now c.args.settings.now c.args.low
             (slice_index_or (s ∷ marks) (n + 1) s) (drop (n + 1) marks))
-            (w.quest-is ∙ ap (λ i. record c.marks.quest { end = i; continues = false }) at)
-            ∙ (none_yet c.marks.quest c.args.points.now c.args.settings.now c.args.low n s marks there
-            (omega (arith, at, w.if-tick-quest.true)) (omega (arith, at, w.if-tick-low.false))
+            (w.scope-is ∙ ap (λ i. record c.marks.scope { end = i; continues = false }) at)
+            ∙ (none_yet c.marks.scope c.args.points.now c.args.settings.now c.args.low n s marks there
+            (omega (arith, at, w.if-tick-scope.true)) (omega (arith, at, w.if-tick-low.false))
             (sym w.in_default.is ∙ (w.found_from.ensures.found
-            ∙ ap (λ (k : MachineModel). found_from c.marks.quest c.args.points.now c.args.settings.now c.args.low
+            ∙ ap (λ (k : MachineModel). found_from c.marks.scope c.args.points.now c.args.settings.now c.args.low
             k.state)
             (w.restore.ensures.state s)))
             ∙ c.marks.invariant.place s);
@@ -89,13 +89,13 @@ marks-preserved g c =
             ∙ (ap (λ (m : MachineModel). m.broken) (w.restore.ensures.state c.args.past.now.start)
             ∙ c.marks.invariant.kept));
       }
-      | else-tick-quest w ↦ record {
+      | else-tick-scope w ↦ record {
         place = λ s.
             let at : c.tick-tick.result ≡ tick_of (slice_index_or marks n s) = c.tick-tick.ensures s in
-            ap (λ (q : Quest). place_back q c.args.points.now c.args.settings.now c.args.low
-            (slice_index_or (s ∷ marks) (n + 1) s) (drop (n + 1) marks)) w.quest-is
-            ∙ (passed_over c.marks.quest c.args.points.now c.args.settings.now c.args.low n s marks there
-            (omega (arith, at, w.if-tick-quest.false))
+            ap (λ (q : SearchScope). place_back q c.args.points.now c.args.settings.now c.args.low
+            (slice_index_or (s ∷ marks) (n + 1) s) (drop (n + 1) marks)) w.scope-is
+            ∙ (passed_over c.marks.scope c.args.points.now c.args.settings.now c.args.low n s marks there
+            (omega (arith, at, w.if-tick-scope.false))
             ∙ c.marks.invariant.place s);
         same = rw w.machine-is c.marks.invariant.same;
         kept = ap (λ (m : MachineModel). m.broken) w.machine-is ∙ c.marks.invariant.kept;
@@ -105,9 +105,9 @@ marks-preserved g c =
 pub returns-clause-place : goal.returns-clause-place
 returns-clause-place g c = λ s.
     let all : c.marks.number ≡ c.count.result = omega (arith, c.marks-test.false, c.marks.auto.number-end) in
-    past_begins c.marks.quest c.args.points.now c.args.settings.now c.args.low c.count.result s c.args.past.now.marks
+    past_begins c.marks.scope c.args.points.now c.args.settings.now c.args.low c.count.result s c.args.past.now.marks
     c.count.ensures.count c.count.ensures.some
-    ∙ (ap (λ i. place_back c.marks.quest c.args.points.now c.args.settings.now c.args.low
+    ∙ (ap (λ i. place_back c.marks.scope c.args.points.now c.args.settings.now c.args.low
     (slice_index_or (s ∷ c.args.past.now.marks) i s) (drop i c.args.past.now.marks)) (sym all)
     ∙ c.marks.invariant.place s)
 

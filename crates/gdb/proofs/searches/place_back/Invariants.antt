@@ -8,9 +8,9 @@ use Rattle.gdb.proofs.searches.place_back.Given as goal
 abbrev pub invariant-marks : goal.invariant-marks
 invariant-marks g l = record {
   place : (s : State) →
-      place_back l.quest l.points l.settings l.low (slice_index_or (s ∷ l.past.marks) l.number s)
+      place_back l.scope l.points l.settings l.low (slice_index_or (s ∷ l.past.marks) l.number s)
       (drop l.number l.past.marks)
-      ≡ place_back l.fn.quest l.points l.settings l.low s l.past.marks;
+      ≡ place_back l.fn.scope l.points l.settings l.low s l.past.marks;
   same : AreOfOneMachine l.past.start l.machine.state;
   kept : l.machine.broken ≡ l.fn.machine.broken;
 }

@@ -8,8 +8,8 @@ pub returns-in-Ok-clause-takes : goal.returns-in-Ok-clause-takes
 returns-in-Ok-clause-takes g c =
     let f = flow c.args.progress.now c.args.machine.now.state in
     let p = c.args.plan.now in
-    let points = c.args.terms.now.points.now in
-    last_taken p points.watchpoints c.args.terms.now.features (slice p points c.args.steps f) c.run_slice.new.progress
+    let points = c.args.context.now.points.now in
+    last_taken p points.watchpoints c.args.context.now.features (slice p points c.args.steps f) c.run_slice.new.progress
     c.in-Ok.reason
     c.unwrap_or-reason.result c.args.machine.now c.run_slice.new.machine (g.W.Out.writing c.args.out.now)
     (g.W.Out.writing c.run_slice.new.out) (g.W.Out.writing c.end_run.new.out) c.end_run.new.sent.items
@@ -20,7 +20,7 @@ returns-in-Ok-clause-takes g c =
 
 pub returns-in-Err-clause-takes : goal.returns-in-Err-clause-takes
 returns-in-Err-clause-takes g c =
-    last_cut c.args.plan.now c.args.terms.now.points.now.watchpoints c.args.terms.now.features
-    (slice c.args.plan.now c.args.terms.now.points.now c.args.steps
+    last_cut c.args.plan.now c.args.context.now.points.now.watchpoints c.args.context.now.features
+    (slice c.args.plan.now c.args.context.now.points.now c.args.steps
     (flow c.args.progress.now c.args.machine.now.state)) c.args.machine.now c.run_slice.new.machine
     (g.W.Out.writing c.args.out.now) (g.W.Out.writing c.run_slice.new.out) c.in-Err.ensures.delivers

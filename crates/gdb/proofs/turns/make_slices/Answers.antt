@@ -4,7 +4,7 @@ use Rattle.gdb.proofs.Slicing.{slice_leaves}
 use Rattle.gdb_past.proofs.Following.{same_refl, same_trans}
 use Rattle.gdb.proofs.Turning.{none_left, some_left, taken, taken_as, whole_end}
 use Rattle.gdb.specs.Slices.{Progress, flow, slice}
-use Rattle.gdb.specs.Turns.{all_slices, slices, steps_at_once}
+use Rattle.gdb.specs.Turns.{all_slices, slices, max_slice_steps}
 use Rattle.gdb.proofs.turns.make_slices.Goals as goal
 
 pub slices-init : goal.slices-init
@@ -22,22 +22,22 @@ pub returns-in-Err-clause-takes : goal.returns-in-Err-clause-takes
 returns-in-Err-clause-takes g c =
     let f = flow c.slices.progress c.slices.machine.state in
     let p = c.args.plan.now in
-    let points = c.args.terms.now.points.now in
-    let features = c.args.terms.now.features in
+    let points = c.args.context.now.points.now in
+    let features = c.args.context.now.features in
     let some : c.slices.whole ≡ suc (c.slices.whole - 1) = omega (arith, c.slices-test.true) in
-    rest_cut _ _ _ (slice p points steps_at_once f).pieces _ _ _ _ _ _ c.slices.invariant.goes
-    (some_left p points features c.slices.whole (c.slices.whole - 1) (c.args.left % steps_at_once) f some)
+    rest_cut _ _ _ (slice p points max_slice_steps f).pieces _ _ _ _ _ _ c.slices.invariant.goes
+    (some_left p points features c.slices.whole (c.slices.whole - 1) (c.args.left % max_slice_steps) f some)
     c.in-Err.ensures.delivers
 
 pub returns-in-Ok-Some-clause-takes : goal.returns-in-Ok-Some-clause-takes
 returns-in-Ok-Some-clause-takes g c =
     let f = flow c.slices.progress c.slices.machine.state in
     let p = c.args.plan.now in
-    let points = c.args.terms.now.points.now in
-    let features = c.args.terms.now.features in
+    let points = c.args.context.now.points.now in
+    let features = c.args.context.now.features in
     let some : c.slices.whole ≡ suc (c.slices.whole - 1) = omega (arith, c.slices-test.true) in
     let made = rw c.in-Ok-Some.field-0-is at c.in-Ok-Some.ensures in
-    whole_end p points features c.slices.whole (c.slices.whole - 1) (c.args.left % steps_at_once) f
+    whole_end p points features c.slices.whole (c.slices.whole - 1) (c.args.left % max_slice_steps) f
     (all_slices p points features c.args.left (flow c.args.progress.now c.args.machine.now.state))
     c.run_slice.new.progress _ c.in-Ok-Some.reason c.args.machine.now c.slices.machine c.run_slice.new.machine
     (g.W.Out.writing c.args.out.now) (g.W.Out.writing c.slices.out) (g.W.Out.writing c.run_slice.new.out)
@@ -48,13 +48,13 @@ pub returns-in-Err-flush-clause-takes : goal.returns-in-Err-flush-clause-takes
 returns-in-Err-flush-clause-takes g c =
     let f = flow c.slices.progress c.slices.machine.state in
     let p = c.args.plan.now in
-    let points = c.args.terms.now.points.now in
-    let features = c.args.terms.now.features in
+    let points = c.args.context.now.points.now in
+    let features = c.args.context.now.features in
     let some : c.slices.whole ≡ suc (c.slices.whole - 1) = omega (arith, c.slices-test.true) in
     let made = rw c.in-Ok-None.field-0-is at c.in-Ok-None.ensures in
     flush_cut _ _ c.run_slice.new.progress c.args.machine.now c.run_slice.new.machine (g.W.Out.writing c.args.out.now)
     (g.W.Out.writing c.run_slice.new.out) (g.W.Out.writing c.flush.new.out)
-    (past_slice p points features c.slices.whole (c.slices.whole - 1) (c.args.left % steps_at_once) f
+    (past_slice p points features c.slices.whole (c.slices.whole - 1) (c.args.left % max_slice_steps) f
     (all_slices p points features c.args.left (flow c.args.progress.now c.args.machine.now.state))
     c.run_slice.new.progress _ c.args.machine.now c.slices.machine c.run_slice.new.machine
     (g.W.Out.writing c.args.out.now) (g.W.Out.writing c.slices.out) (g.W.Out.writing c.run_slice.new.out)
@@ -65,8 +65,8 @@ pub returns-in-Ok-send_packet-clause-takes : goal.returns-in-Ok-send_packet-clau
 returns-in-Ok-send_packet-clause-takes g c =
     let f = flow c.slices.progress c.slices.machine.state in
     let p = c.args.plan.now in
-    let points = c.args.terms.now.points.now in
-    let features = c.args.terms.now.features in
+    let points = c.args.context.now.points.now in
+    let features = c.args.context.now.features in
     let some : c.slices.whole ≡ suc (c.slices.whole - 1) = omega (arith, c.slices-test.true) in
     let gdb : features.is_gdb ≡ true = cc in
     let made = rw c.in-Ok-None.field-0-is at c.in-Ok-None.ensures in
@@ -74,10 +74,10 @@ returns-in-Ok-send_packet-clause-takes g c =
     c.flush.new.self c.args.machine.now c.run_slice.new.machine (g.W.Out.writing c.args.out.now)
     (g.W.Out.writing c.flush.new.out) (g.W.Out.writing c.send_packet.new.out) c.send_packet.new.sent.items
     c.asked.result
-    (past_flush p points features (c.slices.whole - 1) (c.args.left % steps_at_once) _ c.run_slice.new.progress
+    (past_flush p points features (c.slices.whole - 1) (c.args.left % max_slice_steps) _ c.run_slice.new.progress
     c.flush.new.self c.args.machine.now c.run_slice.new.machine (g.W.Out.writing c.args.out.now)
     (g.W.Out.writing c.run_slice.new.out) (g.W.Out.writing c.flush.new.out)
-    (past_slice p points features c.slices.whole (c.slices.whole - 1) (c.args.left % steps_at_once) f
+    (past_slice p points features c.slices.whole (c.slices.whole - 1) (c.args.left % max_slice_steps) f
     (all_slices p points features c.args.left (flow c.args.progress.now c.args.machine.now.state))
     c.run_slice.new.progress _ c.args.machine.now c.slices.machine c.run_slice.new.machine
     (g.W.Out.writing c.args.out.now) (g.W.Out.writing c.slices.out) (g.W.Out.writing c.run_slice.new.out)
@@ -89,18 +89,18 @@ pub returns-in-Err-send_packet-clause-takes : goal.returns-in-Err-send_packet-cl
 returns-in-Err-send_packet-clause-takes g c =
     let f = flow c.slices.progress c.slices.machine.state in
     let p = c.args.plan.now in
-    let points = c.args.terms.now.points.now in
-    let features = c.args.terms.now.features in
+    let points = c.args.context.now.points.now in
+    let features = c.args.context.now.features in
     let some : c.slices.whole ≡ suc (c.slices.whole - 1) = omega (arith, c.slices-test.true) in
     let gdb : features.is_gdb ≡ true = cc in
     let made = rw c.in-Ok-None.field-0-is at c.in-Ok-None.ensures in
     asks_cut features p (all_slices p points features c.args.left (flow c.args.progress.now c.args.machine.now.state)) _
     c.flush.new.self c.args.machine.now c.run_slice.new.machine (g.W.Out.writing c.args.out.now)
     (g.W.Out.writing c.flush.new.out) (g.W.Out.writing c.send_packet.new.out)
-    (past_flush p points features (c.slices.whole - 1) (c.args.left % steps_at_once) _ c.run_slice.new.progress
+    (past_flush p points features (c.slices.whole - 1) (c.args.left % max_slice_steps) _ c.run_slice.new.progress
     c.flush.new.self c.args.machine.now c.run_slice.new.machine (g.W.Out.writing c.args.out.now)
     (g.W.Out.writing c.run_slice.new.out) (g.W.Out.writing c.flush.new.out)
-    (past_slice p points features c.slices.whole (c.slices.whole - 1) (c.args.left % steps_at_once) f
+    (past_slice p points features c.slices.whole (c.slices.whole - 1) (c.args.left % max_slice_steps) f
     (all_slices p points features c.args.left (flow c.args.progress.now c.args.machine.now.state))
     c.run_slice.new.progress _ c.args.machine.now c.slices.machine c.run_slice.new.machine
     (g.W.Out.writing c.args.out.now) (g.W.Out.writing c.slices.out) (g.W.Out.writing c.run_slice.new.out)
@@ -149,24 +149,24 @@ pub slices-preserved : goal.slices-preserved
 slices-preserved g c =
     let f = flow c.slices.progress c.slices.machine.state in
     let p = c.args.plan.now in
-    let points = c.args.terms.now.points.now in
-    let features = c.args.terms.now.features in
+    let points = c.args.context.now.points.now in
+    let features = c.args.context.now.features in
     let some : c.slices.whole ≡ suc (c.slices.whole - 1) = omega (arith, c.slices-test.true) in
     let other : features.is_gdb ≡ false = cc in
     let made = rw c.in-Ok-None.field-0-is at c.in-Ok-None.ensures in
     let same : c.flush.new.self.made ≡ c.run_slice.new.progress.made =
     ap (λ (q : Progress). q.made) c.in-Ok.ensures.kept in
-    let steps : c.run_slice.new.progress.made ≡ (slice p points steps_at_once f).flow.made =
+    let steps : c.run_slice.new.progress.made ≡ (slice p points max_slice_steps f).flow.made =
     ap (λ (q : Progress). q.made) made.slices.1 in
-    let most : (slice p points steps_at_once f).flow.made ≤ c.slices.progress.made + steps_at_once =
-    (slice_leaves p points steps_at_once f).made in
+    let most : (slice p points max_slice_steps f).flow.made ≤ c.slices.progress.made + max_slice_steps =
+    (slice_leaves p points max_slice_steps f).made in
     record {
       goes = asks_none features p _ _ (flow c.flush.new.self c.run_slice.new.machine.state) c.args.machine.now
           c.run_slice.new.machine (g.W.Out.writing c.args.out.now) (g.W.Out.writing c.flush.new.out)
-          (past_flush p points features (c.slices.whole - 1) (c.args.left % steps_at_once) _ c.run_slice.new.progress
+          (past_flush p points features (c.slices.whole - 1) (c.args.left % max_slice_steps) _ c.run_slice.new.progress
           c.flush.new.self c.args.machine.now c.run_slice.new.machine (g.W.Out.writing c.args.out.now)
           (g.W.Out.writing c.run_slice.new.out) (g.W.Out.writing c.flush.new.out)
-          (past_slice p points features c.slices.whole (c.slices.whole - 1) (c.args.left % steps_at_once) f
+          (past_slice p points features c.slices.whole (c.slices.whole - 1) (c.args.left % max_slice_steps) f
           (all_slices p points features c.args.left (flow c.args.progress.now c.args.machine.now.state))
           c.run_slice.new.progress _ c.args.machine.now c.slices.machine c.run_slice.new.machine
           (g.W.Out.writing c.args.out.now) (g.W.Out.writing c.slices.out) (g.W.Out.writing c.run_slice.new.out)
@@ -183,13 +183,14 @@ pub returns-clause-takes : goal.returns-clause-takes
 returns-clause-takes g c =
     let f = flow c.slices.progress c.slices.machine.state in
     let p = c.args.plan.now in
-    let points = c.args.terms.now.points.now in
-    let features = c.args.terms.now.features in
+    let points = c.args.context.now.points.now in
+    let features = c.args.context.now.features in
     let over : c.slices.whole ≡ 0 = omega arith in
     taken (all_slices p points features c.args.left (flow c.args.progress.now c.args.machine.now.state))
-    (slices p points features c.slices.whole (c.args.left % steps_at_once) f) c.args.machine.now c.slices.machine
+    (slices p points features c.slices.whole (c.args.left % max_slice_steps) f) c.args.machine.now c.slices.machine
     c.last_slice.new.machine (g.W.Out.writing c.args.out.now) (g.W.Out.writing c.slices.out)
     (g.W.Out.writing c.last_slice.new.out) c.last_slice.new.sent.items c.last_slice.result c.slices.invariant.goes
     (taken_as _ _ c.slices.machine c.last_slice.new.machine (g.W.Out.writing c.slices.out)
     (g.W.Out.writing c.last_slice.new.out) c.last_slice.new.sent.items c.last_slice.result
-    (sym (none_left p points features c.slices.whole (c.args.left % steps_at_once) f over)) c.last_slice.ensures.takes)
+    (sym (none_left p points features c.slices.whole (c.args.left % max_slice_steps) f over))
+    c.last_slice.ensures.takes)

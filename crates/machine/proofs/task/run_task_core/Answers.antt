@@ -4,7 +4,7 @@ use Rattle.machine.proofs.Running.{none_made, none_shown, after_on, shown_on}
 use Rattle.machine.proofs.Tasking.{instruction_on, ends_so, task_is_cut}
 use Rattle.machine.proofs.task.run_task_core.Goals as goal
 use Rattle.machine.proofs.task.run_task_core.Goals.{else-steps-test, then-steps-test+then-not-is_instruction}
-use Rattle.task_laws.specs.Foresight.{is_instruction_next}
+use Rattle.task_laws.specs.NextStep.{is_instruction_next}
 
 pub steps-init : goal.steps-init
 steps-init g c = record {

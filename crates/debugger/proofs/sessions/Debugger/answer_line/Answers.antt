@@ -1,6 +1,6 @@
 use Rattle.std.proofs.Common.{◌≡◌, ap}
 use Rattle.debugger.proofs.Rooms.{line_held, room_after}
-use Rattle.debugger.specs.Held.{Held, kept_of}
+use Rattle.debugger.specs.Held.{Held, data_of}
 use Rattle.debugger.specs.Sessions.{line_asked}
 use Rattle.debugger.specs.Slots.{HaveRoom}
 use Rattle.machine.specs.MachineModel.{MachineModel}
@@ -15,7 +15,7 @@ returns-in-Ok-clause-kept g c =
       slots = c.self.inside.slots;
       is_open = c.self.inside.is_open;
     } in
-    let is : c.read_line-asked.result ≡ line_asked (kept_of h) =
+    let is : c.read_line-asked.result ≡ line_asked (data_of h) =
     rw (← c.slots.ensures, ← c.line.ensures) c.read_line-asked.ensures in
     rw (← c.self.view_is) (line_held h s _ _ _ _ is c.clear.ensures c.quits.ensures c.answer.ensures.kept)
 

@@ -2,7 +2,7 @@ use Rattle.std.proofs.Common.{◌∙◌, ap, sym, option_map}
 use Rattle.debugger.proofs.Rooms.{found_fits}
 use Rattle.debugger.proofs.slots.Slots.go_back.Goals as goal
 
-pub take_back-requires : goal.take_back-requires
-take_back-requires g c =
+pub restore-requires : goal.restore-requires
+restore-requires g c =
     found_fits _ _ c.args.machine.now.state.bus _ c.requires
     (sym c.saved.ensures ∙ ap (option_map (λ kept. kept.now)) c.in-Some.is)

@@ -1,6 +1,6 @@
 use Rattle.gdb_past.proofs.Following.{same_board}
 use Rattle.gdb_past.proofs.past.Mark.set.Goals as goal
 
-pub keep-requires : goal.keep-requires
-keep-requires g c =
-    same_board c.self.inside.kept c.args.machine.now.state (rw (← c.self.view_is) at c.requires)
+pub save_to-requires : goal.save_to-requires
+save_to-requires g c =
+    same_board c.self.inside.saved c.args.machine.now.state (rw (← c.self.view_is) at c.requires)

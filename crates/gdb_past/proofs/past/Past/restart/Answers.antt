@@ -1,6 +1,6 @@
 use Rattle.gdb_past.proofs.Following.{same_board}
 use Rattle.gdb_past.proofs.past.Past.restart.Goals as goal
 
-pub take_back-requires : goal.take_back-requires
-take_back-requires g c =
+pub restore-requires : goal.restore-requires
+restore-requires g c =
     same_board c.args.machine.now.state c.self.inside.start (rw (← c.self.view_is) at c.requires)

@@ -11,5 +11,5 @@ take-requires g c =
 
 pub returns-then-self-lt-MAX_STEPS : goal.returns-then-self-lt-MAX_STEPS
 returns-then-self-lt-MAX_STEPS g c =
-    after_more c.self.inside.steps (c.self.inside.steps + 1) c.self.inside.kept (omega arith)
+    after_more c.self.inside.steps (c.self.inside.steps + 1) c.self.inside.saved (omega arith)
     ∙ (ap (λ (s : State). (step s).state) c.self.view_is ∙ sym c.requires)

@@ -6,10 +6,10 @@ use Rattle.reference.specs.Run.{after}
 use Rattle.reference.specs.State.{State}
 use Rattle.gdb_past.proofs.position.Position.restore.Goals as goal
 
-pub take_back-requires : goal.take_back-requires
-take_back-requires g c =
-    let kept : State = c.self.inside.kept in
-    same_board c.args.machine.now.state kept
-    (same_trans c.args.machine.now.state c.args.self.now kept c.requires
-    (same_sym kept c.args.self.now
-    (subst (λ (s : State). AreOfOneMachine kept s) c.self.view_is (same_after c.self.inside.steps kept))))
+pub restore-requires : goal.restore-requires
+restore-requires g c =
+    let saved : State = c.self.inside.saved in
+    same_board c.args.machine.now.state saved
+    (same_trans c.args.machine.now.state c.args.self.now saved c.requires
+    (same_sym saved c.args.self.now
+    (subst (λ (s : State). AreOfOneMachine saved s) c.self.view_is (same_after c.self.inside.steps saved))))
