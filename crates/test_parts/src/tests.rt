@@ -1,9 +1,9 @@
 mod accesses;
 mod boards;
 mod clock_end;
+mod device_accesses;
 mod device_tables;
 mod device_values;
-mod devices;
 mod images;
 mod intervals;
 mod levels;

@@ -1,6 +1,6 @@
 mod access_maps;
 mod command_lines;
-mod gdb_packets;
-mod gdb_texts;
-mod messages;
+mod gdb_replies;
+mod message_texts;
+mod packets;
 mod rankings;
