@@ -34,12 +34,12 @@ pub fn permission_of(access_permission: u8, privileged: bool) -> Permission {
 pub struct PermissionWords {
     pub permission: Permission,
     /// XN: no instruction is fetched from the region.
-    pub never_executed: bool,
+    pub execute_never: bool,
 }
 
 impl fmt::Display for PermissionWords {
     fn fmt<W: fmt::Write>(&self, f: &mut fmt::Formatter<W>) -> fmt::Result {
-        match (self.permission, self.never_executed) {
+        match (self.permission, self.execute_never) {
             (Permission::Nothing, _) => write!(f, "nothing"),
             (Permission::Read, false) => write!(f, "read, execute"),
             (Permission::Read, true) => write!(f, "read"),

@@ -43,12 +43,12 @@ impl RegionWords {
         let access_permission = (self.attributes / 0x100_0000 % 8) as u8;
         PermissionWords {
             permission: permission_of(access_permission, privileged),
-            never_executed: self.is_never_executed(),
+            execute_never: self.is_execute_never(),
         }
     }
 
     /// Returns XN: whether no instruction is fetched from the region.
-    pub fn is_never_executed(&self) -> bool {
+    pub fn is_execute_never(&self) -> bool {
         self.attributes / 0x1000_0000 % 2 == 1
     }
 

@@ -194,7 +194,7 @@ abbrev pub with_enabled : Nvic → ℕ → Bool → Nvic
 with_enabled n x on = if can_be_disabled n.interrupts x then record n { enabled = slice_set n.enabled x on } else n
 
 -- the top bits of a priority byte that the board implements
-abbrev pub kept : ℕ → ℕ → ℕ
+abbrev pub implemented_bits : ℕ → ℕ → ℕ
 implemented_bits bits b = b / 2 ^ (8 - bits) * 2 ^ (8 - bits)
 
 -- the priority byte of x becomes b, of which the board keeps the top bits; nothing changes where x has none

@@ -131,9 +131,9 @@ const PERMISSIONS: [(u32, u32, &str, &str); 14] = [
 
 #[test]
 fn permissions_are_those_of_the_standard(rt: HostRuntime) -> Result<(), Fail> {
-    'rows: for (access_permission, never_executed, privileged, unprivileged) in &PERMISSIONS {
+    'rows: for (access_permission, execute_never, privileged, unprivileged) in &PERMISSIONS {
         let high = access_permission.wrapping_mul(0x100_0000);
-        let attributes = high | never_executed.wrapping_mul(0x1000_0000) | 1;
+        let attributes = high | execute_never.wrapping_mul(0x1000_0000) | 1;
         let words = RegionWords {
             base: 0,
             attributes,
