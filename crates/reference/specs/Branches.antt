@@ -64,8 +64,11 @@ it_state_of o = o.condition % 2 ^ 4 * 2 ^ 4 + o.mask % 2 ^ 4
 -- IT: the block begins with the next instruction, so ITSTATE is set and not advanced
 abbrev pub if_then : InstructionLength → IfThen → Registers → Finished
 if_then length o r =
-    record { registers = record r { it_state = it_state_of o; pc = word_sum r.pc (instruction_bytes length) }; ending =
-        Next }
+    record {
+      registers = record r { it_state = it_state_of o; pc = word_sum r.pc (instruction_bytes length) };
+      ending =
+          Next;
+    }
 
 -- ---- the family
 

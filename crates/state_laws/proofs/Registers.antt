@@ -147,7 +147,7 @@ pub write_special_kept : (r : Registers) (special : SpecialRegister) (value : �
 unfolding write_special
 write_special_kept r special value h =
     cond_both (is_privileged r || is_written_unprivileged special) _ _ HasRegisters
-        (λ e. special_kept r special value h) (λ e. h)
+    (λ e. special_kept r special value h) (λ e. h)
 
 pub reset_has : (stack entry : ℕ) → HasRegisters (reset_registers stack entry)
 reset_has stack entry = record {

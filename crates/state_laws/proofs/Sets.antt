@@ -82,7 +82,7 @@ priority_kept interrupts bits n x b small h =
       board = is;
       bytes =
           at_each (λ y c. c < 2 ^ 8) n.priorities x (implemented_bits n.priority_bits b) 0
-              (kept_small n.priority_bits b small)
+          (kept_small n.priority_bits b small)
           h.bytes;
       basepri = h.basepri;
     })

@@ -65,7 +65,7 @@ pokes_alike (d ∷ ds) (e ∷ es) x kind a h = rw h.0 (by (has e.device x) refl 
   where
     by : (b : Bool) → has e.device x ≡ b → pokes_by (word_at ds x) kind a ≡ pokes_by (word_at es x) kind a →
         pokes_by
-            (if has e.device x then Some (record { device = e.device; stored = slice_index d.words (place e.device x) })
+        (if has e.device x then Some (record { device = e.device; stored = slice_index d.words (place e.device x) })
         else word_at ds x) kind a
         ≡ pokes_by (word_at (e ∷ es) x) kind a
     by true there rest = rw there refl
@@ -156,7 +156,7 @@ module _ (es : List DeviceWords) (a : ℕ) where
               let parts =
               or_parts (is_store q.access.kind && are_of_word q.access.address a)
               (pokes_by (word_at es q.access.address) q.access.kind a)
-                  (unread tick q rule (read_at s.devices s.time.ticks q.access.address q.access.size)
+              (unread tick q rule (read_at s.devices s.time.ticks q.access.address q.access.size)
               (rw there refl) none) in
               rw (there, load, e) at
               (pokes_alike s.devices es q.access.address q.access.kind a same ∙ parts.1)
@@ -190,7 +190,7 @@ module _ (es : List DeviceWords) (a : ℕ) where
       (λ g. device_stays tick b.system rule q
       (and_parts (is_load q.access.kind || is_store q.access.kind)
       (not (is_in_memory b.memory q.access.address (bytes_in q.access.size))
-          && has_device_at b.system.devices q.access.address)
+      && has_device_at b.system.devices q.access.address)
       g).0 same)
       (λ g none. refl)))
 
