@@ -161,6 +161,15 @@ one_text_more selection writing name old new items later e failed after is so_fa
     ∣ text_more selection before e (writing old) (writing new) failed after
     (found selection before (writing old) failed so_far) put ∣₁)
 
+-- the text of one event more, where none can fail
+pub text_within : {O : Type 0} (selection : TraceSelection) (writing : O → Writing) (name : ℕ) (old new : O)
+    (items later : List (O × Event)) (e : Event) → later ≡ items ++ (old, e) ∷ []
+    → Puts selection writing name old items false
+    → WritesAll (writing old) (writing new) (kinds_text selection (e ∷ []))
+    → Puts selection writing name new later false
+text_within selection writing name old new items later e is so_far put =
+    one_text_more selection writing name old new items later e false false is so_far put
+
 -- the last byte that was printed, after one event more
 pub one_byte_more : {O : Type 0} (selection : TraceSelection) (writing : O → Writing) (name : ℕ) (old new : O)
     (items later : List (O × Event)) (e : Event) (last : Option ℕ)

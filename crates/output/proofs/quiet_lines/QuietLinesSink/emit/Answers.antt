@@ -1,5 +1,5 @@
 use Rattle.std.proofs.Common.{arith}
-use Rattle.output.proofs.Emitting.{fits_more, one_byte_more, one_more, one_text_more}
+use Rattle.output.proofs.Emitting.{fits_more, one_byte_more, one_more, text_within}
 use Rattle.output.proofs.quiet_lines.QuietLinesSink.emit.Goals as goal
 
 pub put_within-requires-clause-room : goal.put_within-requires-clause-room
@@ -9,7 +9,7 @@ pub invariant_of-self : goal.invariant_of-self
 invariant_of-self g c = record {
   gathers = c.args.self.now.gathers;
   writes =
-      one_text_more g.V.View.SELECTION g.O.Out.writing c.args.self.now.out.ghost_name _ _ _ _ _ _ _
+      text_within g.V.View.SELECTION g.O.Out.writing c.args.self.now.out.ghost_name _ _ _ _ _
       c.and-history.ensures c.args.self.now.writes (rw c.SELECTION.ensures at c.put_within.ensures.put);
   ends =
       one_byte_more g.V.View.SELECTION g.O.Out.writing c.args.self.now.out.ghost_name _ _ _ _ _ _
