@@ -1,9 +1,8 @@
-use Rattle.std.proofs.Common.{◌≡◌, true, false, None, refl, ap}
+use Rattle.std.proofs.Common.{◌≡◌, true, false, None, refl}
 use Rattle.std.proofs.KnownBytes.{Appends-nil}
 use Rattle.reference.specs.Accesses.{accessed}
 use Rattle.reference.specs.LoadStore.{fetch_at}
 use Rattle.trace.proofs.Selecting.{line_selected, not_selected}
-use Rattle.trace.specs.declared.selection.TraceSelection.{TraceSelection}
 use Rattle.trace.specs.declared.selection.TraceSelection.TheVariants as which
 use Rattle.trace.specs.Selection.{selects, writes_bytes}
 use Rattle.output.proofs.quiet_lines.put_fetch.Goals as goal
