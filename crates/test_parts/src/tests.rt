@@ -1,6 +1,5 @@
 mod accesses;
 mod boards;
-mod clock_end;
 mod device_accesses;
 mod device_tables;
 mod device_values;

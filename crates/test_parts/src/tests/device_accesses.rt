@@ -184,7 +184,7 @@ fn ones_and_zeros_clear_only_bits_that_are_covered(rt: HostRuntime) -> Result<()
 fn the_first_byte_of_a_word_goes_to_the_console(rt: HostRuntime) -> Result<(), Fail> {
     let mut devices = Devices::new(rt.alloc(), &uart())?;
     assert_eq!(rt; store(&mut devices, 1, DATA, 0x141), Some(0x41));
-    assert!(rt; devices.have(DATA + 1) && devices.have(DATA + 2));
+    assert!(rt; devices.has_device_at(DATA + 1) && devices.has_device_at(DATA + 2));
     let second = store_part(&mut devices, 2, DATA + 1, Size::Byte, 0x41);
     assert_eq!(rt; second, None);
     let half = store_part(&mut devices, 3, DATA + 2, Size::Halfword, 0x41);
@@ -323,7 +323,7 @@ fn the_first_device_has_an_address_that_two_have(rt: HostRuntime) -> Result<(), 
     assert_eq!(rt; load(&mut devices, 2, base + 8), Some(9));
     assert_eq!(rt; load(&mut devices, 3, base + 4), Some(5));
     assert_eq!(rt; load(&mut devices, 4, base + 16), None);
-    assert!(rt; !devices.have(base + 16));
+    assert!(rt; !devices.has_device_at(base + 16));
     Ok(())
 }
 
