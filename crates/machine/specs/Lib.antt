@@ -13,5 +13,4 @@ pub mod Fetched
 pub mod Kept
 pub mod Permits
 pub mod Quiet
-pub mod GoingAtOnce
 pub mod MadeSteps
