@@ -2,7 +2,7 @@ use Rattle.std.proofs.Common.{◌≡◌, ◌⊎◌, inl, inr, ◌∙◌, sym, ap
 use Rattle.machine.proofs.Running.{ends_so, not_some}
 use Rattle.machine.specs.MachineModel.{MachineModel}
 use Rattle.survey_run.proofs.Counted.{all_surveyed, machine_on, none_made, none_surveyed, surveyed_on, whole_made}
-use Rattle.world_run.specs.CountModel.{Counting}
+use Rattle.world_run.specs.CountModel.{CountModel}
 use Rattle.world_run.proofs.Counted.{all_counted, counted_on, none_counted}
 use Rattle.survey_run.proofs.survey_run.Goals as goal
 use Rattle.survey_run.proofs.survey_run.Goals.{else-steps-test, then-steps-test+then-is_some}
@@ -13,10 +13,10 @@ steps-init g c = record {
   machine = none_made c.args.machine.now;
   counted = sym (none_surveyed c.args.machine.now.state c.args.survey.now);
   worlds =
-      ap (λ (k : Counting). k.worlds) c.begin.ensures
+      ap (λ (k : CountModel). k.worlds) c.begin.ensures
       ∙ sym (none_counted c.args.machine.now.state c.args.count.now.worlds);
   start = c.step_start_of-start.ensures;
-  mpu = ap (λ (k : Counting). k.mpu) c.begin.ensures;
+  mpu = ap (λ (k : CountModel). k.mpu) c.begin.ensures;
 }
 
 pub steps-preserved : goal.steps-preserved
