@@ -1,6 +1,6 @@
 -- Steps over handlers and other tasks: where one comes to a Stack step, it ends when the code that was interrupted goes
 -- on (profile).
-use Rattle.std.specs.Prelude.{ℕ, ◌==◌, ◌&&◌, Bool, true, false, not, if◌then◌else◌, Option, Some, None}
+use Rattle.std.specs.Prelude.{◌==◌, ◌&&◌, Bool, true, false, not, if◌then◌else◌, Option, Some, None}
 use Rattle.gdb.specs.declared.over.ReturnPoint.{ReturnPoint}
 use Rattle.instruction_set.specs.Registers.{sp, uses_psp}
 use Rattle.machine.specs.NextStep.{is_instruction_next, next_kind_of}
