@@ -1,5 +1,5 @@
 -- A turn of going back: the steps to its place, and what it leaves.
-use Rattle.std.proofs.Common.{◌≡◌, ◌∙◌, ◌+◌, ◌-◌, ◌<◌, ℕ, Bool, true, false, if◌then◌else◌, List, [], ◌∷◌}
+use Rattle.std.proofs.Common.{◌≡◌, ◌∙◌, ◌+◌, ◌-◌, ◌<◌, ◌≤◌, ℕ, Bool, true, false, if◌then◌else◌, List, [], ◌∷◌}
 use Rattle.std.proofs.Common.{Option, Some, None, Result, Ok, Err, IfOk, OnOk, ap, arith, drop, option_map, refl}
 use Rattle.std.proofs.Common.{slice_index_or, subst, sym}
 use Rattle.std.proofs.lemmas.List.{append-nil}
@@ -14,8 +14,8 @@ use Rattle.gdb.specs.Returns.{Returned, Returns, asked_at, flow_at, low_of, retu
 use Rattle.gdb.specs.Searches.{Place, place_back, place_of}
 use Rattle.gdb.specs.Slices.{Progress}
 use Rattle.gdb.specs.Turns.{ended, poll_packet, said, stop_packet}
-use Rattle.gdb_past.proofs.Following.{after_more, after_none}
-use Rattle.gdb_past.specs.Places.{Past}
+use Rattle.gdb_past.proofs.Following.{after_more, same_step, same_trans}
+use Rattle.gdb_past.specs.Places.{AreOfOneMachine, Past}
 use Rattle.gdb_texts.specs.declared.features.Features.{Features}
 use Rattle.gdb_texts.specs.declared.settings.Settings.{Settings}
 use Rattle.gdb_texts.specs.declared.stops.StopReason.TheVariants.{Interrupted}
@@ -31,15 +31,26 @@ use Rattle.serving.specs.Pieces.{Piece, Delivers, DeliversAll, DeliversPart, las
 
 -- ---- the steps to a place
 
-pub reached : (m before there : MachineModel) (n : ℕ) → 0 < n → before ≡ record m { state = after (n - 1) m.state }
-    → there ≡ record before { state = (step before.state).state } → there ≡ record m { state = after n m.state }
-reached m before there n some goes is =
+pub reached_from : (m before there : MachineModel) (n at : ℕ) (mark : State) → 0 < n → at ≡ n - 1
+    → before ≡ record m { state = after at mark } → there ≡ record before { state = (step before.state).state }
+    → there ≡ record m { state = after n mark }
+reached_from m before there n at mark some near goes is =
     is ∙ (ap (λ (k : MachineModel). record k { state = (step k.state).state }) goes
-    ∙ ap (λ (s : State). record m { state = s }) (sym (after_more (n - 1) n m.state (omega (arith, some)))))
+    ∙ ap (λ (s : State). record m { state = s }) (sym (after_more at n mark (omega (arith, some, near)))))
 
-pub stayed : (m there : MachineModel) (n : ℕ) → n ≡ 0 → there ≡ m → there ≡ record m { state = after n m.state }
-stayed m there n none is =
-    is ∙ ap (λ (s : State). record m { state = s }) (sym (after_none m.state) ∙ ap (λ i. after i m.state) (sym none))
+pub stayed_at : (m there : MachineModel) (n at : ℕ) (mark : State) → n ≡ 0 → at ≤ n - 1
+    → there ≡ record m { state = after at mark } → there ≡ record m { state = after n mark }
+stayed_at m there n at mark none near is =
+    let same : at ≡ n = omega (arith, none, near) in
+    is ∙ ap (λ i. record m { state = after i mark }) same
+
+-- after a step it is the same machine
+pub same_stepped : (start : State) (before there : MachineModel)
+    → there ≡ record before { state = (step before.state).state } → AreOfOneMachine start before.state
+    → AreOfOneMachine start there.state
+same_stepped start before there is fits =
+    subst (λ (m : MachineModel). AreOfOneMachine start m.state) (sym is)
+    (same_trans start before.state (step before.state).state fits (same_step before.state))
 
 -- ---- what a turn leaves
 

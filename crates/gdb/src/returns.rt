@@ -16,7 +16,7 @@ ghost use Rattle.serving.specs.Pieces.{Delivers};
 use crate::searches::{FoundPlace, ReverseTarget, SearchScope, Way, place_back};
 use crate::slices::{Plan, Points, Progress};
 use crate::turns::{MAX_SLICE_STEPS, POLL_PACKET, RunContext, SentPacket, end_run, send_packet};
-use gdb_past::{Past, Position, make_steps};
+use gdb_past::{Past, Position};
 use gdb_texts::{Features, Resume, Signal, StopReason, signal_of};
 use machine::{Decider, Exceptions, KeptCode, Machine, SysTickState};
 use output::{IoError, Out};
@@ -81,20 +81,28 @@ fn is_of_step(reason: StopReason) -> bool
     }
 }
 
-/// Makes the steps from a mark to a place in the past. `progress` has the events of the last one, where the run
-/// backwards ends for what happened in it.
-fn make_steps_to<D: Decider, C: KeptCode, L: Exceptions, U: SysTickState>(
+/// Takes the machine to a place after the last mark. `progress` has the events of the step that ends there, where the
+/// run backwards ends for what happened in it.
+fn reach<D: Decider, C: KeptCode, L: Exceptions, U: SysTickState>(
     found: FoundPlace,
+    past: &mut Past<L, U>,
     progress: &mut Progress,
     machine: &mut Machine<D, C, L, U>,
 )
-    requires { progress.old.events ≡ [] }
-    ensures events { progress.new
-        ≡ record progress.old { events = events_for found.reason machine.old.state found.steps } }
-    ensures state { machine.new ≡ record machine.old { state = after found.steps machine.old.state } }
+    requires fits { AreOfOneMachine past.old.start machine.old.state }
+    requires some { 0 < length past.old.marks }
+    requires events { progress.old.events ≡ [] }
+    ensures past { past.new ≡ past.old }
+    ensures events { (s : State) → progress.new ≡ record progress.old {
+      events = events_for found.reason (slice_index_or past.old.marks 0 s) found.steps;
+    } }
+    ensures state { (s : State) → machine.new
+        ≡ record machine.old { state = after found.steps (slice_index_or past.old.marks 0 s) } }
+    ensures same { AreOfOneMachine past.old.start machine.new.state }
 {
+    let before = found.steps.saturating_sub(1);
+    let _ = past.go_near(0, before, before, machine);
     if found.steps > 0 {
-        make_steps(machine, found.steps - 1);
         progress.repeat(machine);
     }
     if !is_of_step(found.reason) {
@@ -121,9 +129,8 @@ fn arrive<D: Decider, C: KeptCode, L: Exceptions, U: SysTickState>(
     } }
     ensures same { AreOfOneMachine past.old.start machine.new.state }
 {
-    past.restore(target.number, machine);
-    make_steps_to(target.found, progress, machine);
     past.forget(target.number);
+    reach(target.found, past, progress, machine);
 }
 
 /// Ends a run backwards: puts the lines that say why, and the stop reply.

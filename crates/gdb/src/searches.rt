@@ -1,18 +1,19 @@
 //! Searches in the past of a machine, for the last place at which a run backwards ends.
 
-ghost use Rattle.std.specs.Prelude.{◌≡◌, ◌+◌, ◌<◌, ◌^◌, ◌&&◌, ◌||◌, if◌then◌else◌, nat_lt, IfSome, None, drop};
+ghost use Rattle.std.specs.Prelude.{◌≡◌, ◌+◌, ◌-◌, ◌<◌, ◌^◌, ◌&&◌, ◌||◌, if◌then◌else◌, nat_lt, IfSome, None, drop};
 ghost use Rattle.std.specs.Prelude.{length, option_map, slice_index_or};
 ghost use Rattle.gdb.specs.Reasons.{first_hit, has_entry, reason_if, reason_of_events, reason_or, watch_reason};
 ghost use Rattle.gdb.specs.Searches.{found_from, found_if, last_found, mark_found, place_back, place_of};
 ghost use Rattle.gdb.specs.Searches.{reason_of_mark, reason_of_next, reason_of_step, reason_there};
 ghost use Rattle.gdb_past.specs.Places.{AreOfOneMachine, tick_of};
 ghost use Rattle.gdb_texts.specs.declared.stops.StopReason.TheVariants.{Done};
+ghost use Rattle.reference.specs.Run.{after};
 ghost use Rattle.reference.specs.State.{State};
 ghost use Rattle.reference.specs.Step.{step};
 
 use crate::slices::Points;
 use crate::steps::{first_hit, has_entry, reason_at_breakpoint, reason_of_events};
-use gdb_past::{Past, make_steps};
+use gdb_past::Past;
 use gdb_texts::{Settings, StopReason};
 use machine::{
     Decider, Event, Events, Exceptions, KeptCode, Machine, SysTickState, is_instruction,
@@ -162,33 +163,78 @@ fn found_if(
     }
 }
 
-/// Makes the steps from a mark, whose tick is `tick`. Returns the last place with a reason among the `count` ones after
-/// the first `low` ones.
+/// Returns the last place with a reason among the `count` ones after a place, where the machine is: `steps` steps after
+/// a mark, whose tick is `tick`.
 fn last_found<D: Decider, C: KeptCode, L: Exceptions, U: SysTickState>(
     scope: SearchScope,
     points: &Points,
     settings: &Settings,
     tick: u64,
-    low: u64,
+    steps: u64,
     count: u64,
     machine: &mut Machine<D, C, L, U>,
 ) -> Option<FoundPlace>
-    requires tick { tick ≡ tick_of machine.old.state }
-    requires room { tick + low + count < 2 ^ 64 }
-    ensures found { result ≡ last_found scope points.now settings.now machine.old.state low count }
+    requires room { tick + steps + count < 2 ^ 64 }
+    ensures found { (m : State) → tick ≡ tick_of m → machine.old.state ≡ after steps m
+        → result ≡ last_found scope points.now settings.now m steps count }
     ensures same { AreOfOneMachine machine.old.state machine.new.state }
     ensures kept { machine.new.broken ≡ machine.old.broken }
 {
-    make_steps(machine, low);
     let mut events = Events::new();
     let mut found = None;
     'steps: for step in 0..count {
-        let steps = low + step + 1;
-        let at = tick + steps;
+        let there = steps + step + 1;
+        let at = tick + there;
         let reason = reason_there(scope, points, settings, at, &mut events, machine);
-        found = found_if(steps, reason, found);
+        found = found_if(there, reason, found);
     }
     found
+}
+
+/// Returns how many places are searched at first: a unit seldom has more than a few steps, and a stop is often far.
+fn first_part(way: Way) -> u64
+    ensures { 0 < result }
+{
+    match way {
+        Way::Step => 64,
+        Way::Continue => 262_144,
+    }
+}
+
+/// Returns the last place with a reason after a mark, from the place `low` steps after it to the one `high` steps after
+/// it. The last part of the way is searched first, from a checkpoint if there is one.
+fn found_between<D: Decider, C: KeptCode, L: Exceptions, U: SysTickState>(
+    scope: SearchScope,
+    points: &Points,
+    settings: &Settings,
+    number: usize,
+    low: u64,
+    high: u64,
+    past: &mut Past<L, U>,
+    machine: &mut Machine<D, C, L, U>,
+) -> Option<FoundPlace>
+    requires number { number < length past.old.marks }
+    requires fits { AreOfOneMachine past.old.start machine.old.state }
+    requires room { (m : State) → tick_of (slice_index_or past.old.marks number m) + high < 2 ^ 64 }
+    ensures found { (m : State) → result ≡ last_found scope points.now settings.now
+        (slice_index_or past.old.marks number m) low (high - low) }
+    ensures past { past.new ≡ past.old }
+    ensures same { AreOfOneMachine past.old.start machine.new.state }
+    ensures kept { machine.new.broken ≡ machine.old.broken }
+{
+    let tick = past.tick(number);
+    let mut end = high;
+    let mut part = first_part(scope.way);
+    'parts: while low < end {
+        let from = past.go_near(number, low.max(end.saturating_sub(part)), end - 1, machine);
+        let found = last_found(scope, points, settings, tick, from, end - from, machine);
+        if found.is_some() {
+            return found;
+        }
+        end = from;
+        part = part.saturating_mul(8);
+    }
+    None
 }
 
 /// Returns why a run backwards ends at a mark, where the machine is.
@@ -226,31 +272,38 @@ fn mark_found<D: Decider, C: KeptCode, L: Exceptions, U: SysTickState>(
     )
 }
 
-/// Returns the last place with a reason after a mark, where the machine is, and after the tick `low`; or the mark.
+/// Returns the last place with a reason after a mark and after the tick `low`; or the mark.
 fn found_from<D: Decider, C: KeptCode, L: Exceptions, U: SysTickState>(
     scope: SearchScope,
     points: &Points,
     settings: &Settings,
-    tick: u64,
+    number: usize,
     low: u64,
+    past: &mut Past<L, U>,
     machine: &mut Machine<D, C, L, U>,
 ) -> Option<FoundPlace>
-    requires { tick ≡ tick_of machine.old.state }
-    ensures found { result ≡ found_from scope points.now settings.now low machine.old.state }
-    ensures same { AreOfOneMachine machine.old.state machine.new.state }
+    requires number { number < length past.old.marks }
+    requires fits { AreOfOneMachine past.old.start machine.old.state }
+    ensures found { (m : State) → result ≡ found_from scope points.now settings.now low
+        (slice_index_or past.old.marks number m) }
+    ensures past { past.new ≡ past.old }
+    ensures same { AreOfOneMachine past.old.start machine.new.state }
     ensures kept { machine.new.broken ≡ machine.old.broken }
 {
-    let mark = if low <= tick {
-        mark_found(scope, points, tick, machine)
-    } else {
-        None
-    };
+    let tick = past.tick(number);
     let skipped = low.saturating_sub(tick);
-    let count = scope.end.saturating_sub(tick).saturating_sub(skipped);
-    match last_found(scope, points, settings, tick, skipped, count, machine) {
-        Some(found) => Some(found),
-        None => mark,
+    let count = scope.end.saturating_sub(tick);
+    let later = found_between(
+        scope, points, settings, number, skipped, count, past, machine,
+    );
+    if later.is_some() {
+        return later;
     }
+    if tick < low {
+        return later;
+    }
+    let _ = past.go_near(number, 0, 0, machine);
+    mark_found(scope, points, tick, machine)
 }
 
 /// Searches the past down to the tick `low`. Returns the last place with a reason, or the first mark; and None where
@@ -260,23 +313,23 @@ pub fn place_back<D: Decider, C: KeptCode, L: Exceptions, U: SysTickState>(
     points: &Points,
     settings: &Settings,
     low: u64,
-    past: &Past<L, U>,
+    past: &mut Past<L, U>,
     machine: &mut Machine<D, C, L, U>,
 ) -> Option<ReverseTarget>
-    requires { AreOfOneMachine past.now.start machine.old.state }
-    ensures place { (s : State) → option_map (λ target. place_of (drop target.number past.now.marks)
-        (slice_index_or past.now.marks target.number s) target.found) result
-        ≡ place_back scope points.now settings.now low s past.now.marks }
-    ensures number { IfSome result (λ target. target.number < length past.now.marks) }
-    ensures same { AreOfOneMachine past.now.start machine.new.state }
+    requires { AreOfOneMachine past.old.start machine.old.state }
+    ensures place { (s : State) → option_map (λ target. place_of (drop target.number past.old.marks)
+        (slice_index_or past.old.marks target.number s) target.found) result
+        ≡ place_back scope points.now settings.now low s past.old.marks }
+    ensures number { IfSome result (λ target. target.number < length past.old.marks) }
+    ensures past { past.new ≡ past.old }
+    ensures same { AreOfOneMachine past.old.start machine.new.state }
     ensures kept { machine.new.broken ≡ machine.old.broken }
 {
     let mut scope = scope;
     'marks: for number in 0..past.count() {
         let tick = past.tick(number);
         if tick <= scope.end {
-            past.restore(number, machine);
-            if let Some(found) = found_from(scope, points, settings, tick, low, machine) {
+            if let Some(found) = found_from(scope, points, settings, number, low, past, machine) {
                 return Some(ReverseTarget { number, found });
             }
             if tick < low {

@@ -1,12 +1,13 @@
 -- Steps keep the sizes of memory and the devices.
-use Rattle.std.proofs.Common.{◌≡◌, ◌∙◌, ℕ, zero, suc, false, List, [], ◌∷◌, ap, drop, refl, slice_index_or, sym}
+use Rattle.std.proofs.Common.{◌≡◌, ◌∙◌, ◌+◌, ◌-◌, ◌≤◌, ℕ, zero, suc, false, List, [], ◌∷◌, ap, arith, drop, refl}
+use Rattle.std.proofs.Common.{slice_index_or, sym}
 use Rattle.devices.specs.declared.device.Device.{Device}
 use Rattle.devices.specs.Copies.{HaveSameDevices}
 use Rattle.devices.specs.Devices.{DeviceWords}
 use Rattle.gdb_past.specs.Places.{AreOfOneMachine, Board, Extent, devices_in, extents}
 use Rattle.platform.specs.Memory.{Memory}
 use Rattle.reference.specs.Run.{after}
-use Rattle.reference.specs.State.{Bus, State}
+use Rattle.reference.specs.State.{State}
 use Rattle.reference.specs.Step.{step}
 use Rattle.space.specs.Sizes.{HaveSameSizes}
 use Rattle.step_laws.proofs.Sizes.{step_board}
@@ -94,3 +95,17 @@ after_none s = refl
 pub after_more : (n m : ℕ) (s : State) → m ≡ suc n → after m s ≡ (step (after n s)).state
 unfolding after
 after_more n m s e = rw e refl
+
+-- steps after other steps
+pub after_then : (n m : ℕ) (s : State) → after m (after n s) ≡ after (n + m) s
+unfolding after
+after_then n zero s = ap (λ i. after i s) (omega arith)
+after_then n (suc m) s =
+    ap (λ (t : State). (step t).state) (after_then n m s) ∙ sym (after_more (n + m) (n + suc m) s (omega arith))
+
+pub after_from : (from to : ℕ) (m s t : State) → from ≤ to → s ≡ after from m → t ≡ after (to - from) s
+    → t ≡ after to m
+after_from from to m s t order here there =
+    let whole : from + (to - from) ≡ to = omega (arith, order) in
+    there ∙ (ap (λ (u : State). after (to - from) u) here
+    ∙ (after_then from (to - from) m ∙ ap (λ i. after i m) whole))

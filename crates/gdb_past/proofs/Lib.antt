@@ -1,2 +1,3 @@
+mod Checkpointing
 pub mod Following
 mod Rooms

@@ -1,2 +1,3 @@
+pub mod Checkpoints
 pub mod Places
 pub mod Rooms

@@ -1,6 +1,7 @@
 //! States of a machine that are kept, so that a session can go back to them.
 #![tactic(auto)]
 
+mod checkpoints;
 mod past;
 mod position;
 

@@ -1,15 +1,31 @@
 //! What a session keeps of a machine's past.
 
-ghost use Rattle.std.specs.Prelude.{◌≡◌, ◌<◌, ◌≤◌, ◌∷◌, drop, length, slice_index_or, take, IfOk};
+ghost use Rattle.std.specs.Prelude.{◌≡◌, ℕ, ◌<◌, ◌≤◌, ◌∷◌, drop, length, slice_index_or, take, IfOk};
+ghost use Rattle.gdb_past.specs.Checkpoints.{max_checkpoints};
 ghost use Rattle.gdb_past.specs.Places.{AreOfOneMachine, below, marked, max_marks, past_from, tick_of};
+ghost use Rattle.reference.specs.Run.{after};
 ghost use Rattle.reference.specs.State.{State};
 
+use crate::checkpoints::Checkpoints;
+use crate::position::make_steps;
 use machine::{Decider, Exceptions, KeptCode, Machine, SavedState, SysTickState};
 use std::alloc::{AllocError, Global};
 use std::marker::Model;
 
 /// The most marks.
 const MAX_MARKS: usize = 8;
+
+/// How many checkpoints are spread over a long way: the slots 0 to 11.
+const SPREAD: usize = 12;
+
+/// The shortest distance between two of these.
+const MIN_SPACING: u64 = 262_144;
+
+/// The number of the slots. The last four are for checkpoints near the place that is gone to.
+const SLOTS: usize = 16;
+
+/// The distance of the first of these from the place. That of the next one is an eighth of it, and so on.
+const FIRST_DISTANCE: u64 = 32_768;
 
 /// Room for a mark: a state to which a session can go back, and its tick.
 #[derive(Drop)]
@@ -75,10 +91,13 @@ pub struct Past<L: Exceptions, U: SysTickState> {
     /// Room for the marks, of which the first `count` are set.
     marks: Vec<Mark<L, U>>,
     count: usize,
+    /// States on the way from the last mark.
+    checkpoints: Checkpoints<L, U>,
 }
 
 impl<L: Exceptions, U: SysTickState> Model for Past<L, U> {
-    ghost use Rattle.std.specs.Prelude.{take};
+    ghost use Rattle.std.specs.Prelude.{slice_index_or, take};
+    ghost use Rattle.gdb_past.specs.Checkpoints.{AreRight};
     ghost use Rattle.gdb_past.specs.Places.{Past as PastView};
     ghost use Rattle.gdb_past.specs.Rooms.{HasRoom};
 
@@ -86,7 +105,8 @@ impl<L: Exceptions, U: SysTickState> Model for Past<L, U> {
 
     ghost view = { λ p. record { start = p.start; marks = take p.count p.marks.items } };
 
-    ghost invariant = { λ p. HasRoom p.start p.marks.items p.count };
+    ghost invariant = { λ p. HasRoom p.start p.marks.items p.count
+        × AreRight p.start (slice_index_or p.marks.items 0 p.start) p.checkpoints };
 }
 
 impl<L: Exceptions, U: SysTickState> Past<L, U> {
@@ -97,6 +117,7 @@ impl<L: Exceptions, U: SysTickState> Past<L, U> {
     ) -> Result<Self, AllocError>
         ensures { IfOk result (λ past. past ≡ past_from machine.now.state) }
     {
+        let checkpoints = Checkpoints::new(alloc, machine)?;
         let start = machine.save(alloc)?;
         let mut marks = Vec::new(alloc);
         'marks: for number in 0..MAX_MARKS {
@@ -107,6 +128,7 @@ impl<L: Exceptions, U: SysTickState> Past<L, U> {
             start,
             marks,
             count: 1,
+            checkpoints,
         })
     }
 
@@ -127,15 +149,149 @@ impl<L: Exceptions, U: SysTickState> Past<L, U> {
         self.marks[number].tick()
     }
 
-    /// Takes the machine back to a mark, by its number from the last one.
-    pub fn restore<D: Decider, C: KeptCode>(&self, number: usize, machine: &mut Machine<D, C, L, U>)
+    /// Takes the machine to a place at most `most` steps after a mark, of which a copy is kept: a checkpoint, or the
+    /// mark. Returns how many steps after the mark it is.
+    fn restore_near<D: Decider, C: KeptCode>(
+        &self,
+        number: usize,
+        most: u64,
+        machine: &mut Machine<D, C, L, U>,
+    ) -> u64
         requires number { number < length self.now.marks }
         requires fits { AreOfOneMachine self.now.start machine.old.state }
-        ensures state { (m : State) →
-            machine.new ≡ record machine.old { state = slice_index_or self.now.marks number m } }
+        ensures few { result ≤ most }
+        ensures state { (m : State) → machine.new
+            ≡ record machine.old { state = after result (slice_index_or self.now.marks number m) } }
         ensures same { AreOfOneMachine self.now.start machine.new.state }
     {
-        self.marks[number].restore(machine);
+        if number > 0 {
+            self.marks[number].restore(machine);
+            return 0;
+        }
+        match self.checkpoints.restore(most, machine) {
+            Some(steps) => steps,
+            None => {
+                self.marks[0].restore(machine);
+                0
+            }
+        }
+    }
+
+    /// Keeps a checkpoint in a slot where the machine is, so many steps after the last mark.
+    fn save_to<D: Decider, C: KeptCode>(
+        &mut self,
+        slot: usize,
+        steps: u64,
+        machine: &Machine<D, C, L, U>,
+    )
+        requires slot { slot < max_checkpoints }
+        requires state { (m : State) → machine.now.state ≡ after steps (slice_index_or self.old.marks 0 m) }
+        ensures { self.new ≡ self.old }
+    {
+        self.checkpoints.save_to(slot, steps, machine);
+    }
+
+    /// Makes the steps to a place after the last mark, unless the machine is there or later, and keeps a checkpoint.
+    /// Returns how many steps after the mark the machine is.
+    fn keep_at<D: Decider, C: KeptCode>(
+        &mut self,
+        slot: usize,
+        from: u64,
+        to: u64,
+        machine: &mut Machine<D, C, L, U>,
+    ) -> u64
+        requires slot { slot < max_checkpoints }
+        requires state { (m : State) → machine.old.state ≡ after from (slice_index_or self.old.marks 0 m) }
+        ensures past { self.new ≡ self.old }
+        ensures few { (n : ℕ) → from ≤ n → to ≤ n → result ≤ n }
+        ensures state { (m : State) → machine.new
+            ≡ record machine.old { state = after result (slice_index_or self.old.marks 0 m) } }
+    {
+        if to <= from {
+            return from;
+        }
+        make_steps(machine, to - from);
+        self.save_to(slot, to, machine);
+        to
+    }
+
+    /// Makes the steps from a place after the last mark to a later one, as far as checkpoints are spread over the way.
+    /// Returns how many steps after the mark the machine is.
+    fn spread<D: Decider, C: KeptCode>(
+        &mut self,
+        from: u64,
+        to: u64,
+        machine: &mut Machine<D, C, L, U>,
+    ) -> u64
+        requires order { from ≤ to }
+        requires state { (m : State) → machine.old.state ≡ after from (slice_index_or self.old.marks 0 m) }
+        ensures past { self.new ≡ self.old }
+        ensures few { result ≤ to }
+        ensures state { (m : State) → machine.new
+            ≡ record machine.old { state = after result (slice_index_or self.old.marks 0 m) } }
+    {
+        let spacing = (to - from) / 12;
+        let mut at = from;
+        if spacing < MIN_SPACING {
+            return at;
+        }
+        'slots: for slot in 0..SPREAD {
+            at = self.keep_at(slot, at, at + spacing.min(to - at), machine);
+        }
+        at
+    }
+
+    /// Makes the steps from a place after the last mark to a later one, and keeps checkpoints on the way.
+    fn advance<D: Decider, C: KeptCode>(
+        &mut self,
+        from: u64,
+        to: u64,
+        machine: &mut Machine<D, C, L, U>,
+    )
+        requires order { from ≤ to }
+        requires state { (m : State) → machine.old.state ≡ after from (slice_index_or self.old.marks 0 m) }
+        ensures past { self.new ≡ self.old }
+        ensures state { (m : State) → machine.new
+            ≡ record machine.old { state = after to (slice_index_or self.old.marks 0 m) } }
+    {
+        let mut at = self.spread(from, to, machine);
+        let mut distance = FIRST_DISTANCE;
+        'slots: for slot in SPREAD..SLOTS {
+            at = self.keep_at(slot, at, to.saturating_sub(distance), machine);
+            distance /= 8;
+        }
+        make_steps(machine, to - at);
+    }
+
+    /// Takes the machine to a place from `least` to `most` steps after a mark. Returns how many steps after it the
+    /// machine is.
+    pub fn go_near<D: Decider, C: KeptCode>(
+        &mut self,
+        number: usize,
+        least: u64,
+        most: u64,
+        machine: &mut Machine<D, C, L, U>,
+    ) -> u64
+        requires number { number < length self.old.marks }
+        requires order { least ≤ most }
+        requires fits { AreOfOneMachine self.old.start machine.old.state }
+        ensures past { self.new ≡ self.old }
+        ensures least { least ≤ result }
+        ensures most { result ≤ most }
+        ensures state { (m : State) → machine.new
+            ≡ record machine.old { state = after result (slice_index_or self.old.marks number m) } }
+        ensures same { AreOfOneMachine self.old.start machine.new.state }
+    {
+        let at = self.restore_near(number, most, machine);
+        if least <= at {
+            return at;
+        }
+        if number > 0 {
+            make_steps(machine, least - at);
+            return least;
+        }
+        self.advance(at, least, machine);
+        least
     }
 
     /// Forgets the last marks, so many.
@@ -143,6 +299,10 @@ impl<L: Exceptions, U: SysTickState> Past<L, U> {
         requires { count < length self.old.marks }
         ensures { self.new ≡ record self.old { marks = drop count self.old.marks } }
     {
+        if count == 0 {
+            return;
+        }
+        self.checkpoints.clear();
         self.marks.rotate_left(count);
         self.count -= count;
     }
@@ -170,6 +330,7 @@ impl<L: Exceptions, U: SysTickState> Past<L, U> {
           marks = take max_marks (machine.now.state ∷ drop count self.old.marks);
         } }
     {
+        self.checkpoints.clear();
         self.marks.rotate_left(count);
         self.marks.rotate_right(1);
         self.marks[0].set(machine);

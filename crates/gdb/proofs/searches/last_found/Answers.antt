@@ -1,7 +1,7 @@
-use Rattle.std.proofs.Common.{◌≡◌, ◌+◌, ◌∙◌, ap, arith, refl, sym}
+use Rattle.std.proofs.Common.{◌+◌, ◌∙◌, ap, arith, refl, sym}
 use Rattle.gdb.proofs.Searching.{one_more}
 use Rattle.gdb.specs.Searches.{last_found}
-use Rattle.gdb_past.proofs.Following.{after_more, same_after}
+use Rattle.gdb_past.proofs.Following.{after_more, after_none, after_then, same_after}
 use Rattle.machine.specs.MachineModel.{MachineModel}
 use Rattle.reference.specs.Run.{after}
 use Rattle.reference.specs.State.{State}
@@ -12,32 +12,30 @@ pub steps-init : goal.steps-init
 unfolding last_found
 steps-init g c =
     let m : MachineModel = c.args.machine.now in
-    let all : c.args.low ≡ c.args.low + 0 = omega arith in
     record {
-      machine = c.make_steps.ensures ∙ ap (λ n. record m { state = after n m.state }) all;
-      found = refl;
+      machine = ap (λ (s : State). record m { state = s }) (sym (after_none m.state));
+      found = λ s at here. refl;
     }
 
 pub steps-preserved : goal.steps-preserved
 steps-preserved g c =
     let m : MachineModel = c.args.machine.now in
-    let n = c.args.low + c.steps.step in
     record {
       machine = c.reason_there-reason.ensures.state
           ∙ (ap (λ (k : MachineModel). record k { state = (step k.state).state }) c.steps.invariant.machine
           ∙ ap (λ (s : State). record m { state = s })
-          (sym (after_more n (c.args.low + (c.steps.step + 1)) m.state (omega arith))));
-      found = c.found_if-found.ensures
-          ∙ one_more c.args.scope c.args.points.now c.args.settings.now m.state c.steps.machine.state c.args.low
-          c.steps.step (c.args.tick + (c.args.low + c.steps.step + 1)) (c.args.low + c.steps.step + 1)
-          c.reason_there-reason.result c.steps.found (omega (arith, c.requires.tick)) (omega arith)
-          (ap (λ (k : MachineModel). k.state) c.steps.invariant.machine) c.reason_there-reason.ensures.reason
-          c.steps.invariant.found;
+          (sym (after_more c.steps.step (c.steps.step + 1) m.state (omega arith))));
+      found = λ s at here. c.found_if-found.ensures
+          ∙ one_more c.args.scope c.args.points.now c.args.settings.now s c.steps.machine.state c.args.steps
+          c.steps.step (c.args.tick + (c.args.steps + c.steps.step + 1)) (c.args.steps + c.steps.step + 1)
+          c.reason_there-reason.result c.steps.found (omega (arith, at)) (omega arith)
+          (ap (λ (k : MachineModel). k.state) c.steps.invariant.machine
+          ∙ (ap (λ (u : State). after c.steps.step u) here ∙ after_then c.args.steps c.steps.step s))
+          c.reason_there-reason.ensures.reason (c.steps.invariant.found s at here);
     }
 
 pub returns-clause-same : goal.returns-clause-same
-returns-clause-same g c =
-    rw c.steps.invariant.machine (same_after (c.args.low + c.steps.step) c.args.machine.now.state)
+returns-clause-same g c = rw c.steps.invariant.machine (same_after c.steps.step c.args.machine.now.state)
 
 pub returns-clause-kept : goal.returns-clause-kept
 returns-clause-kept g c = ap (λ (k : MachineModel). k.broken) c.steps.invariant.machine

@@ -8,9 +8,10 @@ use Rattle.gdb.proofs.searches.place_back.Given as goal
 abbrev pub invariant-marks : goal.invariant-marks
 invariant-marks g l = record {
   place : (s : State) →
-      place_back l.scope l.points l.settings l.low (slice_index_or (s ∷ l.past.marks) l.number s)
-      (drop l.number l.past.marks)
-      ≡ place_back l.fn.scope l.points l.settings l.low s l.past.marks;
-  same : AreOfOneMachine l.past.start l.machine.state;
+      place_back l.scope l.points l.settings l.low (slice_index_or (s ∷ l.fn.past.marks) l.number s)
+      (drop l.number l.fn.past.marks)
+      ≡ place_back l.fn.scope l.points l.settings l.low s l.fn.past.marks;
+  past : l.past ≡ l.fn.past;
+  same : AreOfOneMachine l.fn.past.start l.machine.state;
   kept : l.machine.broken ≡ l.fn.machine.broken;
 }

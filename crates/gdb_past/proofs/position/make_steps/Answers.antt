@@ -1,7 +1,6 @@
-use Rattle.std.proofs.Common.{◌≡◌, ◌+◌, ◌∙◌, ℕ, ap, sym, arith}
+use Rattle.std.proofs.Common.{◌+◌, ◌∙◌, ap, sym, arith}
 use Rattle.gdb_past.proofs.Following.{after_more, after_none}
 use Rattle.machine.specs.MachineModel.{MachineModel}
-use Rattle.reference.specs.Run.{after}
 use Rattle.reference.specs.State.{State}
 use Rattle.reference.specs.Step.{step}
 use Rattle.gdb_past.proofs.position.make_steps.Goals as goal

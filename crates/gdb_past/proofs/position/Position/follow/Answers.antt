@@ -1,4 +1,4 @@
-use Rattle.std.proofs.Common.{◌≡◌, ◌+◌, ◌∙◌, ap, arith, subst, sym}
+use Rattle.std.proofs.Common.{◌+◌, ◌∙◌, ap, arith, subst, sym}
 use Rattle.gdb_past.proofs.Following.{after_more, same_step}
 use Rattle.gdb_past.specs.Places.{AreOfOneMachine}
 use Rattle.reference.specs.State.{State}

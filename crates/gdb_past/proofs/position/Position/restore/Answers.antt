@@ -1,8 +1,6 @@
-use Rattle.std.proofs.Common.{◌≡◌, ◌∙◌, ap, subst}
+use Rattle.std.proofs.Common.{subst}
 use Rattle.gdb_past.proofs.Following.{same_after, same_sym, same_trans, same_board}
 use Rattle.gdb_past.specs.Places.{AreOfOneMachine}
-use Rattle.machine.specs.MachineModel.{MachineModel}
-use Rattle.reference.specs.Run.{after}
 use Rattle.reference.specs.State.{State}
 use Rattle.gdb_past.proofs.position.Position.restore.Goals as goal
 
