@@ -1,4 +1,3 @@
-pub mod AtOnce
 mod Joining
 pub mod Listed
 pub mod Lists

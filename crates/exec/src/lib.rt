@@ -2,23 +2,19 @@
 //! "Alphabetical list of ARMv7-M Thumb instructions": the operation of each).
 #![tactic(auto)]
 
-mod at_once;
 mod branches;
 mod exclusives;
 mod finishing;
 mod load_store;
 mod load_store_multiple;
-mod one_access;
 mod planning;
 mod processing;
 mod program_counter;
 mod system;
 
-pub use at_once::carry_out_at_once;
 pub use finishing::finish;
 pub use instruction_set::instruction::{CodedInstruction, Instruction};
 pub use load_store_multiple::{ListedWords, listed_words, next_listed};
-pub use one_access::{finish_single, single_access};
 pub use planning::{is_misplaced, plan};
 pub use platform::access::Request;
 pub use platform::stop::Stop;

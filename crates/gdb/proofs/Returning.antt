@@ -196,15 +196,15 @@ none_found q points k low least s marks o found is same =
 
 -- ---- the progress of a run backwards has no text
 
-pub nothing_made : (p : Progress) → p ≡ record { made = 0; console = console_from None; events = [] }
-    → p ≡ record { made = 0; console = console_from None; events = p.events }
-nothing_made p is = is ∙ ap (λ (es : List Event). record p { made = 0; console = console_from None; events = es })
-    (sym (ap (λ (x : Progress). x.events) is))
+-- what a run backwards has made, beside the events of its last step
+abbrev pub nothing_with : List Event → Progress
+nothing_with es = record { made = 0; console = console_from None; returns_to = None; events = es }
 
-pub still_nothing : (p next : Progress) (es : List Event)
-    → p ≡ record { made = 0; console = console_from None; events = [] } → next ≡ record p { events = es }
-    → next ≡ record { made = 0; console = console_from None; events = next.events }
+pub nothing_made : (p : Progress) → p ≡ nothing_with [] → p ≡ nothing_with p.events
+nothing_made p is = is ∙ ap nothing_with (sym (ap (λ (x : Progress). x.events) is))
+
+pub still_nothing : (p next : Progress) (es : List Event) → p ≡ nothing_with [] → next ≡ record p { events = es }
+    → next ≡ nothing_with next.events
 still_nothing p next es is goes =
     goes ∙ (ap (λ (x : Progress). record x { events = es }) is
-    ∙ ap (λ (fs : List Event). record p { made = 0; console = console_from None; events = fs })
-    (sym (ap (λ (x : Progress). x.events) goes)))
+    ∙ ap nothing_with (sym (ap (λ (x : Progress). x.events) goes)))

@@ -4,10 +4,11 @@ use Rattle.std.proofs.Common.{Option, Some, None, if◌then◌else◌}
 use Rattle.std.proofs.Common.{refl, sym, ◌∙◌, ap, subst, arith, append_assoc, is_some, Bool, true, false}
 use Rattle.std.proofs.lemmas.Bool.Decides.{nat_tests}
 use Rattle.std.proofs.lemmas.List.{append-nil}
+use Rattle.gdb.specs.declared.over.ReturnPoint.{ReturnPoint}
 use Rattle.gdb.specs.declared.slices.Plan.{Plan}
 use Rattle.gdb.specs.declared.slices.Points.{Points}
 use Rattle.gdb.specs.Consoles.{ShownInPart}
-use Rattle.gdb.specs.Reasons.{event_hit, first_hit, hit_by_access, selection_of, watch_reason}
+use Rattle.gdb.specs.Reasons.{event_hit, first_hit, hit_by_access, reason_before, selection_of, watch_reason}
 use Rattle.gdb.specs.Slices.{Flow, Progress, Sliced, Slices, after_pieces, after_step, at_rest, before_step, flow}
 use Rattle.gdb.specs.Slices.{going_on, hit_next, one_step, reason_then, slice, step_piece, step_text}
 use Rattle.gdb.specs.Slices.{unless_ended}
@@ -42,18 +43,18 @@ pub step_hit : (p : Plan) (points : Points) (f : Flow) (o : Option StopReason) �
     → is_some o ≡ true → one_step p points f ≡ at_rest o (step f.state).events f
 step_hit p points f (Some r) is has =
     ap (λ (o : Option StopReason). unless_ended o (step f.state).events f
-    (after_pieces (step_piece p f ∷ []) (at_rest (reason_then p f.state) (step f.state).events (after_step p f))))
+    (after_pieces (step_piece p f ∷ []) (at_rest (reason_then p f) (step f.state).events (after_step p f))))
     (sym is)
 step_hit p points f None is has = absurd (let wrong : false ≡ true = has in cc)
 
 -- none is
 pub step_made : (p : Plan) (points : Points) (f : Flow) (o : Option StopReason) → o ≡ hit_next points f.state
     → is_some o ≡ false → one_step p points f
-    ≡ after_pieces (step_piece p f ∷ []) (at_rest (reason_then p f.state) (step f.state).events (after_step p f))
+    ≡ after_pieces (step_piece p f ∷ []) (at_rest (reason_then p f) (step f.state).events (after_step p f))
 step_made p points f (Some r) is has = absurd (let wrong : true ≡ false = has in cc)
 step_made p points f None is has =
     ap (λ (o : Option StopReason). unless_ended o (step f.state).events f
-    (after_pieces (step_piece p f ∷ []) (at_rest (reason_then p f.state) (step f.state).events (after_step p f))))
+    (after_pieces (step_piece p f ∷ []) (at_rest (reason_then p f) (step f.state).events (after_step p f))))
     (sym is)
 
 -- the state that such a step leaves
@@ -145,6 +146,7 @@ flow_left sliced progress s r left same =
     ∙ ap (λ (u : State). let g : Flow = record {
       made = sliced.flow.made;
       console = sliced.flow.console;
+      returns_to = sliced.flow.returns_to;
       state = u;
     } in g) same
 
@@ -242,16 +244,28 @@ next_cut all rest later more old mid new a b c so_far is next =
 -- a slice that is at rest: what a call leaves
 pub left_at : (all rest : Sliced) (old new : MachineModel) (a b : Writing) (r : Option StopReason) (events : List Event)
     (f : Flow) (now : Progress) → Sliding all rest old new a b → rest ≡ at_rest r events f
-    → now ≡ record { made = f.made; console = f.console; events = events } → Slices all now r
+    → now ≡ record { made = f.made; console = f.console; returns_to = f.returns_to; events = events }
+    → Slices all now r
 left_at all rest old new a b r events f now so_far is kept =
     let e : all ≡ after_pieces so_far.done (at_rest r events f) =
     so_far.whole ∙ ap (λ (x : Sliced). after_pieces so_far.done x) is in (
       sym (ap (λ (x : Sliced). x.reason) e),
-      kept ∙ sym (ap (λ (x : Sliced). let view : Progress =
-          record { made = x.flow.made; console = x.flow.console; events = x.events } in view) e),
+      kept ∙ sym (ap (λ (x : Sliced). let view : Progress = record {
+        made = x.flow.made;
+        console = x.flow.console;
+        returns_to = x.flow.returns_to;
+        events = x.events;
+      } in view) e),
     )
 
 -- ---- by what the calls returned
+
+pub before_is : (p : Plan) (points : Points) (q : Progress) (s : State) (m : ℕ) (o : Option ReturnPoint)
+    (r : Option StopReason) → r ≡ reason_before points.breakpoints p.limit p.how m o s → m ≡ q.made
+    → o ≡ q.returns_to → r ≡ before_step p points (flow q s)
+before_is p points q s m o r is made to =
+    is ∙ (ap (λ (n : ℕ). reason_before points.breakpoints p.limit p.how n o s) made
+    ∙ ap (λ (x : Option ReturnPoint). reason_before points.breakpoints p.limit p.how q.made x s) to)
 
 pub ended_before : (p : Plan) (points : Points) (n : ℕ) (f : Flow) (o : Option StopReason) → 0 < n
     → o ≡ before_step p points f → is_some o ≡ true → slice p points n f ≡ at_rest o [] f

@@ -1,5 +1,6 @@
 pub mod Consoles
 pub mod MemoryReads
+pub mod Over
 pub mod Reasons
 pub mod Returns
 pub mod Searches

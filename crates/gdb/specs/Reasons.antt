@@ -1,7 +1,9 @@
 -- Why a run ends (profile).
-use Rattle.std.specs.Prelude.{ℕ, Bool, true, false, ◌&&◌, ◌||◌, nat_le, nat_lt, if◌then◌else◌}
+use Rattle.std.specs.Prelude.{ℕ, ◌==◌, Bool, true, false, not, ◌&&◌, ◌||◌, nat_le, nat_lt, if◌then◌else◌}
 use Rattle.std.specs.Prelude.{is_some, List, [], ◌∷◌, Option, Some, None}
 use Rattle.std.specs.List.{list_any}
+use Rattle.gdb.specs.declared.over.ReturnPoint.{ReturnPoint}
+use Rattle.gdb.specs.Over.{is_back}
 use Rattle.gdb_texts.specs.declared.settings.Settings.{Settings}
 use Rattle.gdb_texts.specs.declared.actions.Resume.{Resume}
 use Rattle.gdb_texts.specs.declared.actions.Resume.TheVariants as resume
@@ -131,12 +133,12 @@ stop_reason None = None
 stop_reason (Some why) = Some (reason.Stopped why)
 
 -- why a run ends after a step, which was an Instruction step or not. A unit is done by an Instruction step and by one
--- that enters a handler
-abbrev pub reason_after : Settings → Resume → Bool → List Event → Option Stop → ℕ → Option StopReason
-reason_after k how was_instruction events stop pc =
+-- that enters a handler, unless it is away from the code that it returns to
+abbrev pub reason_after : Settings → Resume → Bool → Bool → List Event → Option Stop → ℕ → Option StopReason
+reason_after k how is_away was_instruction events stop pc =
     reason_or (stop_reason stop)
     (reason_or (reason_of_events k events)
-    (reason_if ((was_instruction || has_entry events) && leaves how pc) reason.Done))
+    (reason_if (not is_away && ((was_instruction || has_entry events) && leaves how pc)) reason.Done))
 
 -- ---- before a step
 
@@ -157,10 +159,23 @@ breakpoint_reason (Some kind) is_instruction = reason_if is_instruction (reason.
 abbrev pub reason_at_breakpoint : List Breakpoint → State → Option StopReason
 reason_at_breakpoint points s = breakpoint_reason (kind_at points s.registers.pc) (is_instruction_next s)
 
+-- in the code that a unit returns to: the instruction that was interrupted is made, without a test of breakpoints. At
+-- another one the unit is done, and where that ends no range, a breakpoint there is tested
+abbrev pub reason_back : List Breakpoint → Resume → State → ReturnPoint → Option StopReason
+reason_back points how s point =
+    if s.registers.pc == point.pc then None
+    else reason_or (reason_if (leaves how s.registers.pc) reason.Done) (reason_at_breakpoint points s)
+
+-- at the next step of a unit that returns to a point, or to none
+abbrev pub reason_in_unit : List Breakpoint → Resume → ℕ → State → Option ReturnPoint → Option StopReason
+reason_in_unit points how made s None = if tests_breakpoints how made then reason_at_breakpoint points s else None
+reason_in_unit points how made s (Some point) =
+    if is_back s point then reason_back points how s point else reason_at_breakpoint points s
+
 -- why a run with these breakpoints, to a tick, ends before its next step: the machine has stopped, the clock is at the
--- limit, or a breakpoint
-abbrev pub reason_before : List Breakpoint → ℕ → Resume → ℕ → State → Option StopReason
-reason_before points limit how made s =
+-- limit, a breakpoint, or a unit that is done where it returned
+abbrev pub reason_before : List Breakpoint → ℕ → Resume → ℕ → Option ReturnPoint → State → Option StopReason
+reason_before points limit how made returns_to s =
     reason_or (reason_if (is_some s.stop) reason.StoppedBefore)
     (reason_or (reason_if (nat_le limit s.bus.system.time.ticks) (reason.Stopped StepLimit))
-    (if tests_breakpoints how made then reason_at_breakpoint points s else None))
+    (reason_in_unit points how made s returns_to))

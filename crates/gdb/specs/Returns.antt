@@ -40,7 +40,7 @@ first_search w now =
 
 -- no text has gone out
 abbrev pub flow_at : State → Flow
-flow_at s = record { made = 0; console = console_from None; state = s }
+flow_at s = record { made = 0; console = console_from None; returns_to = None; state = s }
 
 -- the lines that say why it ends there, and the stop reply
 abbrev pub returned_at : Settings → Points → Features → Past → StopReason → List Event → State → Returned

@@ -1,8 +1,11 @@
 -- The steps of a run, up to a reason to stop (profile).
-use Rattle.std.specs.Prelude.{◌≡◌, ℕ, zero, suc, ◌+◌, Bool, not, ◌&&◌, List, [], ◌∷◌, ◌++◌, Option, Some, None}
+use Rattle.std.specs.Prelude.{◌≡◌, ℕ, zero, suc, ◌+◌, Bool, not, ◌&&◌, List, [], ◌∷◌, ◌++◌}
+use Rattle.std.specs.Prelude.{Option, Some, None, is_some}
+use Rattle.gdb.specs.declared.over.ReturnPoint.{ReturnPoint}
 use Rattle.gdb.specs.declared.slices.Plan.{Plan}
 use Rattle.gdb.specs.declared.slices.Points.{Points}
 use Rattle.gdb.specs.Consoles.{Console, console_after, sent_by}
+use Rattle.gdb.specs.Over.{remembered_after}
 use Rattle.gdb.specs.Reasons.{first_hit, is_continue, reason_after, reason_before, selection_of, watch_reason}
 use Rattle.gdb_texts.specs.declared.actions.Resume.{Resume}
 use Rattle.gdb_texts.specs.declared.stops.StopReason.{StopReason}
@@ -13,20 +16,28 @@ use Rattle.reference.specs.Step.{step}
 use Rattle.serving.specs.Pieces.{Piece}
 use Rattle.trace.specs.Selection.{selected_text}
 
--- what a run has made, beside the machine: steps, and text; and the events of its last step
+-- what a run has made, beside the machine: steps, and text; the code that its unit returns to, if it is over a handler;
+-- and the events of its last step
 pub record Progress : Type 0 where
   pub made : ℕ
   pub console : Console
+  pub returns_to : Option ReturnPoint
   pub events : List Event
 
 -- a run between two steps
 pub record Flow : Type 0 where
   pub made : ℕ
   pub console : Console
+  pub returns_to : Option ReturnPoint
   pub state : State
 
 abbrev pub flow : Progress → State → Flow
-flow progress s = record { made = progress.made; console = progress.console; state = s }
+flow progress s = record {
+  made = progress.made;
+  console = progress.console;
+  returns_to = progress.returns_to;
+  state = s;
+}
 
 -- ---- one step
 
@@ -34,10 +45,15 @@ flow progress s = record { made = progress.made; console = progress.console; sta
 abbrev pub step_text : Plan → State → List ℕ
 step_text p s = selected_text (selection_of p.settings.selection) (step s).events
 
+-- the code that the unit returns to after the step; a run that goes on until something stops it has no units
+abbrev pub returns_then : Plan → Flow → Option ReturnPoint
+returns_then p f = remembered_after (p.settings.steps_over && not (is_continue p.how)) f.returns_to f.state
+
 abbrev pub after_step : Plan → Flow → Flow
 after_step p f = record {
   made = f.made + 1;
   console = console_after f.console (step_text p f.state);
+  returns_to = returns_then p f;
   state = (step f.state).state;
 }
 
@@ -45,20 +61,21 @@ after_step p f = record {
 abbrev pub step_piece : Plan → Flow → Piece
 step_piece p f = record { state = (step f.state).state; text = sent_by f.console (step_text p f.state) }
 
--- whether a step that ends a unit comes next; a run that goes on until something stops it has no units
+-- whether an Instruction step of a unit comes next
 abbrev pub counts : Resume → State → Bool
 counts how s = not (is_continue how) && is_instruction_next s
 
 abbrev pub before_step : Plan → Points → Flow → Option StopReason
-before_step p points f = reason_before points.breakpoints p.limit p.how f.made f.state
+before_step p points f = reason_before points.breakpoints p.limit p.how f.made f.returns_to f.state
 
 -- the watchpoint that the next step would hit
 abbrev pub hit_next : Points → State → Option StopReason
 hit_next points s = watch_reason (first_hit points.watchpoints (step s).events)
 
-abbrev pub reason_then : Plan → State → Option StopReason
-reason_then p s =
-    reason_after p.settings p.how (counts p.how s) (step s).events (step s).state.stop (step s).state.registers.pc
+abbrev pub reason_then : Plan → Flow → Option StopReason
+reason_then p f =
+    reason_after p.settings p.how (is_some (returns_then p f)) (counts p.how f.state) (step f.state).events
+    (step f.state).state.stop (step f.state).state.registers.pc
 
 -- ---- at most n steps
 
@@ -85,7 +102,7 @@ unless_ended None events f later = later
 abbrev pub one_step : Plan → Points → Flow → Sliced
 one_step p points f =
     unless_ended (hit_next points f.state) (step f.state).events f
-    (after_pieces (step_piece p f ∷ []) (at_rest (reason_then p f.state) (step f.state).events (after_step p f)))
+    (after_pieces (step_piece p f ∷ []) (at_rest (reason_then p f) (step f.state).events (after_step p f)))
 
 -- what comes later, unless the run ended in a part of it
 abbrev pub going_on : Sliced → Sliced → Sliced
@@ -103,5 +120,6 @@ Slices sliced now reason =
     (reason ≡ sliced.reason) × (now ≡ record {
       made = sliced.flow.made;
       console = sliced.flow.console;
+      returns_to = sliced.flow.returns_to;
       events = sliced.events;
     })

@@ -79,7 +79,13 @@ poll_packet = packet_of (codes "Fisatty,0")
 abbrev pub asked : Resume → Flow → Turned
 asked how f = record {
   pieces = said f poll_packet ∷ [];
-  outcome = Asks (record { how = how; made = f.made; last = f.console.last; is_interrupted = false });
+  outcome = Asks (record {
+    how = how;
+    made = f.made;
+    last = f.console.last;
+    returns_to = f.returns_to;
+    is_interrupted = false;
+  });
   sent = poll_packet;
 }
 
@@ -128,7 +134,12 @@ all_slices p points features left f =
     slices p points features (left / max_slice_steps) (left % max_slice_steps) f
 
 abbrev pub begun : Run → State → Flow
-begun run s = record { made = run.made; console = console_from run.last; state = s }
+begun run s = record {
+  made = run.made;
+  console = console_from run.last;
+  returns_to = run.returns_to;
+  state = s;
+}
 
 abbrev pub plan_of : Settings → ℕ → Run → Plan
 plan_of k limit run = record { how = run.how; limit = limit; settings = k }

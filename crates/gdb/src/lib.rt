@@ -2,6 +2,7 @@
 #![tactic(auto)]
 
 mod console;
+mod over;
 mod reading;
 mod registers;
 mod returns;
@@ -12,6 +13,7 @@ mod turns;
 mod whys;
 
 pub use console::Console;
+pub use over::{ReturnPoint, is_back, remembered_after};
 pub use reading::{ReplyData, put_memory};
 pub use registers::{place_of, register_values};
 pub use returns::{Return, Search, first_search, go_back};

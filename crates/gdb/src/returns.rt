@@ -135,7 +135,12 @@ fn end_return<D: Decider, C: KeptCode, L: Exceptions, U: SysTickState, W: Out>(
     machine: &Machine<D, C, L, U>,
     out: &mut W,
 ) -> Result<Return, IoError>
-    requires { progress.old ≡ record { made = 0; console = console_from None; events = progress.old.events } }
+    requires { progress.old ≡ record {
+      made = 0;
+      console = console_from None;
+      returns_to = None;
+      events = progress.old.events;
+    } }
     ensures delivers { Delivers
         (ended context.now.settings context.now.points.now.watchpoints context.now.features reason
         progress.old.events (flow_at machine.now.state)).pieces machine.now machine.now (W.writing out.old)
@@ -220,7 +225,7 @@ pub fn go_back<D: Decider, C: KeptCode, L: Exceptions, U: SysTickState, W: Out>(
     ensures fits { AreOfOneMachine position.new machine.new.state }
     ensures same { AreOfOneMachine machine.old.state machine.new.state }
 {
-    let mut progress = Progress::new(0, None);
+    let mut progress = Progress::new(0, None, None);
     if search.is_interrupted {
         let reason = StopReason::Interrupted;
         return end_return(reason, context, &mut progress, sent, machine, out);

@@ -2,7 +2,7 @@
 
 ghost use Rattle.std.specs.Prelude.{◌≡◌, ◌+◌, ◌-◌, ◌^◌, ◌<◌, [], ◌∷◌, IfOk, OnOk};
 ghost use Rattle.gdb.specs.Consoles.{ShowsText, console_after, console_from, emptied, flush_text};
-ghost use Rattle.gdb.specs.Slices.{Slices, flow, hit_next, one_step, slice};
+ghost use Rattle.gdb.specs.Slices.{Slices, flow, hit_next, one_step, returns_then, slice};
 ghost use Rattle.gdb.specs.Watching.{IsReady, state_unless};
 ghost use Rattle.gdb.specs.Whys.{why_text};
 ghost use Rattle.gdb_past.specs.Places.{AreOfOneMachine};
@@ -11,6 +11,7 @@ ghost use Rattle.reference.specs.Step.{step};
 ghost use Rattle.serving.specs.Pieces.{Delivers};
 
 use crate::console::Console;
+use crate::over::{ReturnPoint, remembered_after};
 use crate::steps::{first_hit, is_continue, put_step, reason_after, reason_before, selection_of};
 use crate::whys::put_whys;
 use gdb_past::Position;
@@ -35,11 +36,13 @@ pub struct Points {
     pub watchpoints: Watchpoints,
 }
 
-/// What a run has made: how many steps, and text; and the events of its last step.
+/// What a run has made: how many steps, and text; the code that its unit returns to, if it is over a handler; and the
+/// events of its last step.
 #[derive(Drop)]
 pub struct Progress {
     made: u64,
     console: Console,
+    returns_to: Option<ReturnPoint>,
     events: Events,
 }
 
@@ -48,17 +51,29 @@ impl Model for Progress {
 
     ghost Value = { ProgressView };
 
-    ghost view = { λ p. record { made = p.made; console = p.console; events = p.events.items } };
+    ghost view = { λ p. record {
+      made = p.made;
+      console = p.console;
+      returns_to = p.returns_to;
+      events = p.events.items;
+    } };
 }
 
 impl Progress {
-    /// Returns what a run has made by the begin of a turn: how many steps, and text with this last byte.
-    pub fn new(made: u64, last: Option<u8>) -> Self
-        ensures { result ≡ record { made = made; console = console_from last; events = [] } }
+    /// Returns what a run has made by the begin of a turn: how many steps, and text with this last byte. `returns_to` is
+    /// the code that its unit returns to.
+    pub fn new(made: u64, last: Option<u8>, returns_to: Option<ReturnPoint>) -> Self
+        ensures { result ≡ record {
+          made = made;
+          console = console_from last;
+          returns_to = returns_to;
+          events = [];
+        } }
     {
         Progress {
             made,
             console: Console::new(last),
+            returns_to,
             events: Events::new(),
         }
     }
@@ -75,6 +90,13 @@ impl Progress {
         ensures { result ≡ self.now.console.last }
     {
         self.console.last()
+    }
+
+    /// Returns the code that the unit of a run returns to.
+    pub fn returns_to(&self) -> Option<ReturnPoint>
+        ensures { result ≡ self.now.returns_to }
+    {
+        self.returns_to
     }
 
     /// Sends the text that waits, where there is one.
@@ -124,6 +146,18 @@ impl Progress {
     {
         self.events.clear();
     }
+}
+
+/// Returns the code that a run's unit returns to after the next step.
+fn returns_then<D: Decider, C: KeptCode, L: Exceptions, U: SysTickState>(
+    plan: &Plan,
+    progress: &Progress,
+    machine: &Machine<D, C, L, U>,
+) -> Option<ReturnPoint>
+    ensures { result ≡ returns_then plan.now (flow progress.now machine.now.state) }
+{
+    let over = plan.settings.steps_over && !is_continue(plan.how);
+    remembered_after(over, progress.returns_to(), machine)
 }
 
 /// Makes the machine's state the position to go back to, where there are watchpoints.
@@ -195,11 +229,13 @@ fn make_step<D: Decider, C: KeptCode, L: Exceptions, U: SysTickState, W: Out>(
     ensures same { AreOfOneMachine machine.old.state machine.new.state }
 {
     let counts = !is_continue(plan.how) && is_instruction(machine.next_kind());
+    let returns_to = returns_then(plan, progress, machine);
     let hit = step_unless_hit(points, position, &mut progress.events, machine);
     if hit.is_some() {
         return Ok(hit);
     }
     progress.made += 1;
+    progress.returns_to = returns_to;
     let events = progress.events.as_slice();
     match put_step(
         selection_of(plan.settings.selection),
@@ -211,7 +247,16 @@ fn make_step<D: Decider, C: KeptCode, L: Exceptions, U: SysTickState, W: Out>(
         Err(error) => return Err(error),
     }
     let pc = machine.execution().pc;
-    Ok(reason_after(&plan.settings, plan.how, counts, events, machine.stop(), pc))
+    let is_away = returns_to.is_some();
+    Ok(reason_after(
+        &plan.settings,
+        plan.how,
+        is_away,
+        counts,
+        events,
+        machine.stop(),
+        pc,
+    ))
 }
 
 /// Makes at most `steps` steps of a run that ends at these points. Returns why it ended, if it did. `position` is room
@@ -243,6 +288,7 @@ pub fn run_slice<D: Decider, C: KeptCode, L: Exceptions, U: SysTickState, W: Out
             plan.limit,
             plan.how,
             progress.made(),
+            progress.returns_to(),
             machine,
         );
         if before.is_some() {

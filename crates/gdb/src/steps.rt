@@ -3,13 +3,14 @@
 ghost use Rattle.std.specs.Prelude.{◌≡◌, [], ◌∷◌, is_some};
 ghost use Rattle.gdb.specs.Consoles.{ShowsText};
 ghost use Rattle.gdb.specs.Reasons.{cause_of, event_hit, first_cause, first_hit, has_entry, has_fault, is_continue};
-ghost use Rattle.gdb.specs.Reasons.{is_entry, leaves, reason_after};
-ghost use Rattle.gdb.specs.Reasons.{reason_at_breakpoint, reason_before, reason_of_events, selection_of};
+ghost use Rattle.gdb.specs.Reasons.{is_entry, leaves, reason_after, reason_at_breakpoint, reason_back, reason_before};
+ghost use Rattle.gdb.specs.Reasons.{reason_in_unit, reason_of_events, selection_of};
 ghost use Rattle.gdb.specs.Reasons.{tests_breakpoints};
 ghost use Rattle.platform.specs.Events.{recorded_fault_of};
 ghost use Rattle.trace.specs.Selection.{kinds_text, selected_text};
 
 use crate::console::Console;
+use crate::over::{ReturnPoint, is_back};
 use debugger_commands::LineSelection;
 use gdb_texts::{Breakpoints, Resume, Settings, StopReason, WatchHit, Watchpoints};
 use machine::{
@@ -215,17 +216,19 @@ fn leaves(how: Resume, pc: u32) -> bool
     }
 }
 
-/// Returns why a run ends after a step, which was an Instruction step or not, with these events. `stop` is why the
-/// machine has stopped by then, and `pc` the address of the next instruction.
+/// Returns why a run ends after a step, which was an Instruction step or not, with these events. `is_away` is whether
+/// its unit is away from the code that it returns to, `stop` why the machine has stopped by then, and `pc` the address
+/// of the next instruction.
 pub fn reason_after(
     settings: &Settings,
     how: Resume,
+    is_away: bool,
     was_instruction: bool,
     events: &[Event],
     stop: Option<Stop>,
     pc: u32,
 ) -> Option<StopReason>
-    ensures { result ≡ reason_after settings.now how was_instruction events.now stop pc }
+    ensures { result ≡ reason_after settings.now how is_away was_instruction events.now stop pc }
 {
     if let Some(stop) = stop {
         return Some(StopReason::Stopped(stop));
@@ -233,7 +236,7 @@ pub fn reason_after(
     if let Some(reason) = reason_of_events(settings, events) {
         return Some(reason);
     }
-    if (was_instruction || has_entry(events)) && leaves(how, pc) {
+    if !is_away && ((was_instruction || has_entry(events)) && leaves(how, pc)) {
         return Some(StopReason::Done);
     }
     None
@@ -269,15 +272,64 @@ pub fn reason_at_breakpoint<D: Decider, C: KeptCode, L: Exceptions, U: SysTickSt
     }
 }
 
+/// Returns why a run ends before the next step, an instruction of the code that its unit returns to.
+fn reason_back<D: Decider, C: KeptCode, L: Exceptions, U: SysTickState>(
+    points: &Breakpoints,
+    how: Resume,
+    point: ReturnPoint,
+    machine: &Machine<D, C, L, U>,
+) -> Option<StopReason>
+    ensures { result ≡ reason_back points.now how machine.now.state point }
+{
+    let pc = machine.execution().pc;
+    if pc == point.pc {
+        return None;
+    }
+    if leaves(how, pc) {
+        return Some(StopReason::Done);
+    }
+    reason_at_breakpoint(points, machine)
+}
+
+/// Returns why a run ends before the next step of a unit that returns to a point, or to none.
+fn reason_in_unit<D: Decider, C: KeptCode, L: Exceptions, U: SysTickState>(
+    points: &Breakpoints,
+    how: Resume,
+    made: u64,
+    returns_to: Option<ReturnPoint>,
+    machine: &Machine<D, C, L, U>,
+) -> Option<StopReason>
+    ensures { result ≡ reason_in_unit points.now how made machine.now.state returns_to }
+{
+    match returns_to {
+        None => {
+            if tests_breakpoints(how, made) {
+                reason_at_breakpoint(points, machine)
+            } else {
+                None
+            }
+        }
+        Some(point) => {
+            if is_back(machine, point) {
+                reason_back(points, how, point, machine)
+            } else {
+                reason_at_breakpoint(points, machine)
+            }
+        }
+    }
+}
+
 /// Returns why a run with these breakpoints, to the tick `limit`, that has made some steps ends before its next one.
+/// `returns_to` is what its unit returns to.
 pub fn reason_before<D: Decider, C: KeptCode, L: Exceptions, U: SysTickState>(
     points: &Breakpoints,
     limit: u64,
     how: Resume,
     made: u64,
+    returns_to: Option<ReturnPoint>,
     machine: &Machine<D, C, L, U>,
 ) -> Option<StopReason>
-    ensures { result ≡ reason_before points.now limit how made machine.now.state }
+    ensures { result ≡ reason_before points.now limit how made returns_to machine.now.state }
 {
     if machine.stop().is_some() {
         return Some(StopReason::StoppedBefore);
@@ -285,8 +337,5 @@ pub fn reason_before<D: Decider, C: KeptCode, L: Exceptions, U: SysTickState>(
     if limit <= machine.ticks() {
         return Some(StopReason::Stopped(Stop::StepLimit));
     }
-    if tests_breakpoints(how, made) {
-        return reason_at_breakpoint(points, machine);
-    }
-    None
+    reason_in_unit(points, how, made, returns_to, machine)
 }

@@ -9,6 +9,7 @@ ghost use Rattle.output.specs.Output.{Put};
 ghost use Rattle.reference.specs.State.{State};
 ghost use Rattle.serving.specs.Pieces.{Delivers};
 
+use crate::over::ReturnPoint;
 use crate::registers::register_values;
 use crate::slices::{Plan, Points, Progress, run_slice};
 use crate::whys::stop_with_line;
@@ -31,13 +32,14 @@ pub const POLL_PACKET: &[u8] = b"Fisatty,0";
 /// The last packet that was sent: what `-` asks for again.
 pub type SentPacket = ArrayVec<u8, 8200>;
 
-/// A run between two of its turns: how far it goes, how many steps it has made, the last byte of its text, and whether
-/// GDB has interrupted it.
+/// A run between two of its turns: how far it goes, how many steps it has made, the last byte of its text, the code
+/// that its unit returns to, if it is over a handler, and whether GDB has interrupted it.
 #[derive(Clone, Copy)]
 pub struct Run {
     pub how: Resume,
     pub made: u64,
     pub last: Option<u8>,
+    pub returns_to: Option<ReturnPoint>,
     pub is_interrupted: bool,
 }
 
@@ -133,6 +135,7 @@ fn asked(how: Resume, progress: &Progress) -> Turn
         how,
         made: progress.made(),
         last: progress.last(),
+        returns_to: progress.returns_to(),
         is_interrupted: false,
     })
 }
@@ -282,7 +285,7 @@ pub fn run_turn<D: Decider, C: KeptCode, L: Exceptions, U: SysTickState, W: Out>
         limit: context.limit,
         settings: context.settings,
     };
-    let mut progress = Progress::new(run.made, run.last);
+    let mut progress = Progress::new(run.made, run.last, run.returns_to);
     if run.is_interrupted {
         let reason = StopReason::Interrupted;
         return end_run(

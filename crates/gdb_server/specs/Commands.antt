@@ -1,11 +1,10 @@
 -- The commands of `monitor` (GDB manual, "General Query Packets", qRcmd; the commands are a choice of this project).
-use Rattle.std.specs.Prelude.{ℕ, Bool, true, false, if◌then◌else◌, List, [], ◌∷◌, ◌++◌, codes, decimal}
+use Rattle.std.specs.Prelude.{ℕ, List, [], ◌∷◌, ◌++◌, codes, decimal}
 use Rattle.std.specs.Prelude.{Option, Some, None}
 use Rattle.std.specs.Prelude.{Result, Ok, Err}
 use Rattle.debugger.specs.Answers.{next_text, refusal_text}
 use Rattle.debugger.specs.StateText.{state_text}
 use Rattle.debugger_commands.specs.declared.commands.LineError.{LineError}
-use Rattle.debugger_commands.specs.declared.commands.LineError.TheVariants as error
 use Rattle.debugger_commands.specs.Settings.{ok_text}
 use Rattle.debugger_commands.specs.Texts.{decision_text, error_text, region_lines}
 use Rattle.gdb.specs.Consoles.{console_after, console_from, flush_text, sent_by}
@@ -30,30 +29,9 @@ use Rattle.reference.specs.State.{State}
 
 -- ---- reading a command
 
--- whether a command is known. That of steps over handlers isn't (profile)
-abbrev pub is_known : Monitor → Bool
-is_known monitor.Help = true
-is_known (monitor.Explain a privileged kind) = true
-is_known monitor.Regions = true
-is_known monitor.State = true
-is_known monitor.Next = true
-is_known monitor.History = true
-is_known (monitor.Trace selection) = true
-is_known (monitor.Lines on) = true
-is_known (monitor.Stop what on) = true
-is_known (monitor.Step over) = false
-is_known (monitor.Budget steps) = true
-is_known (monitor.Place place) = true
-is_known monitor.Restart = true
-is_known monitor.Why = true
-
-abbrev pub known : Result Monitor LineError → Result Monitor LineError
-known (Ok m) = if is_known m then Ok m else Err error.Command
-known (Err why) = Err why
-
 -- the command of some digits
 abbrev pub command_of : List ℕ → Result Monitor LineError
-command_of digits = known (monitor_of (bytes_in digits))
+command_of digits = monitor_of (bytes_in digits)
 
 -- ---- what a command changes
 
@@ -119,7 +97,7 @@ command_text past s why refused (Ok monitor.History) = history_text past s
 command_text past s why refused (Ok (monitor.Trace selection)) = ok_text
 command_text past s why refused (Ok (monitor.Lines on)) = ok_text
 command_text past s why refused (Ok (monitor.Stop what on)) = ok_text
-command_text past s why refused (Ok (monitor.Step over)) = error_text error.Command
+command_text past s why refused (Ok (monitor.Step over)) = ok_text
 command_text past s why refused (Ok (monitor.Budget steps)) = ok_text
 command_text past s why refused (Ok (monitor.Place place)) = placed_text refused
 command_text past s why refused (Ok monitor.Restart) = flush_advice

@@ -116,7 +116,7 @@ resumed k s run = turned k (turn k.points k.settings k.features k.limit run s)
 
 -- a run before its first step
 abbrev pub first_turn : Resume → Run
-first_turn how = record { how = how; made = 0; last = None; is_interrupted = false }
+first_turn how = record { how = how; made = 0; last = None; returns_to = None; is_interrupted = false }
 
 -- ---- going back
 

@@ -5,7 +5,6 @@ ghost use Rattle.gdb.specs.Targets.{altered_if};
 ghost use Rattle.platform.specs.Text.{line_feed};
 ghost use Rattle.debugger.specs.Answers.{next_text};
 ghost use Rattle.gdb_server.specs.Commands.{command_of, command_text, console_text, decided_text, flush_advice};
-ghost use Rattle.gdb_server.specs.Commands.{is_known, known};
 ghost use Rattle.gdb_server.specs.Commands.{history_text, mark_lines, placed_by, placed_text, settings_with};
 ghost use Rattle.gdb_server.specs.Conduct.{past_after, past_by};
 ghost use Rattle.gdb_server.specs.Writes.{Writes, after_place};
@@ -28,50 +27,12 @@ use machine::{
 };
 use trace::page::Page;
 
-/// Returns whether a command is known. That of steps over handlers isn't.
-fn is_known(command: Monitor) -> bool
-    ensures { result ≡ is_known command }
-{
-    match command {
-        Monitor::Help
-        | Monitor::Explain(_, _, _)
-        | Monitor::Regions
-        | Monitor::State
-        | Monitor::Next
-        | Monitor::Trace(_)
-        | Monitor::Lines(_)
-        | Monitor::Stop(_, _)
-        | Monitor::Budget(_)
-        | Monitor::Place(_)
-        | Monitor::Restart
-        | Monitor::History
-        | Monitor::Why => true,
-        Monitor::Step(_) => false,
-    }
-}
-
-/// Returns a command that is known.
-fn known(asked: Result<Monitor, LineError>) -> Result<Monitor, LineError>
-    ensures { result ≡ known asked }
-{
-    match asked {
-        Ok(command) => {
-            if is_known(command) {
-                Ok(command)
-            } else {
-                Err(LineError::Command)
-            }
-        }
-        Err(error) => Err(error),
-    }
-}
-
 /// Returns the command that some digits have.
 pub fn read_command(digits: &[u8]) -> Result<Monitor, LineError>
     ensures { result ≡ command_of digits.now }
 {
     let text = Data::of_digits(digits);
-    known(read_monitor(text.as_slice()))
+    read_monitor(text.as_slice())
 }
 
 /// Returns the settings after a command.
@@ -243,12 +204,15 @@ pub fn report_command<D: Decider, C: KeptCode, L: Exceptions, U: SysTickState, W
         Ok(Monitor::Next) => report(next_text(machine).as_slice(), out),
         Ok(Monitor::Place(_)) => report(placed_text(refused).as_slice(), out),
         Ok(Monitor::Why) => report(why_text(why), out),
-        Ok(Monitor::Trace(_) | Monitor::Lines(_) | Monitor::Stop(_, _) | Monitor::Budget(_)) => {
-            report(ok_text().as_slice(), out)
-        }
+        Ok(
+            Monitor::Trace(_)
+            | Monitor::Lines(_)
+            | Monitor::Stop(_, _)
+            | Monitor::Step(_)
+            | Monitor::Budget(_),
+        ) => report(ok_text().as_slice(), out),
         Ok(Monitor::Restart) => report(flush_advice().as_slice(), out),
         Ok(Monitor::History) => report(history_text(past, machine).as_slice(), out),
-        Ok(Monitor::Step(_)) => report(error_text(LineError::Command).as_slice(), out),
         Err(error) => report(error_text(error).as_slice(), out),
     }
 }

@@ -43,6 +43,7 @@ pub fn first_turn(how: Resume) -> Run
         how,
         made: 0,
         last: None,
+        returns_to: None,
         is_interrupted: false,
     }
 }

@@ -18,6 +18,7 @@ trace <which>               chooses the lines of steps: all, refused, exceptions
 trace on|off                the same as all, and as console
 lines on|off                sets whether lines say why a run ended
 stop <what> on|off          sets whether runs end at: refused, faults or exceptions
+step into|over              sets whether steps go into handlers, or over them and other tasks
 budget <n>                  sets the most steps of a run; 0 sets no limit
 place reg <n> <v>           puts a value into a core register: 13 is the stack pointer in use, 14 LR, 15 PC
 place special <n> <v>       puts a value into a special register, numbered as in MSR

@@ -24,6 +24,7 @@ ghost use Rattle.task_laws.specs.Tasks.{is_task};
 ghost use Rattle.trace.specs.Emission.{with_emitted};
 ghost use Rattle.trace.specs.Selection.{selected_trace};
 
+use crate::permit::Permit;
 use crate::readers::{Execution, RegValues};
 use crate::run::{run_core, write_step};
 use crate::saving::SavedState;
@@ -72,6 +73,8 @@ pub enum RunError {
 #[derive(Drop)]
 pub struct Machine<D: Decider, C: KeptCode, L: Exceptions, U: SysTickState> {
     core: Processor<D, C, L, U>,
+    /// A permit for the next step. What changes the core between steps takes it away.
+    permit: Permit,
     broken: bool,
 }
 
@@ -91,10 +94,13 @@ pub type Fast = Machine<
 
 impl<D: Decider, C: KeptCode, L: Exceptions, U: SysTickState> Model for Machine<D, C, L, U> {
     ghost use Rattle.machine.specs.MachineModel.{MachineModel};
+    ghost use Rattle.machine.specs.Permits.{PermitHolds};
 
     ghost Value = { MachineModel };
 
     ghost view = { λ m. record { state = m.core; broken = m.broken } };
+
+    ghost invariant = { λ m. PermitHolds m.permit m.core };
 }
 
 impl<D: Decider, C: KeptCode, L: Exceptions, U: SysTickState> Machine<D, C, L, U> {
@@ -108,6 +114,7 @@ impl<D: Decider, C: KeptCode, L: Exceptions, U: SysTickState> Machine<D, C, L, U
         let core = start_core(alloc, image, board)?;
         Ok(Machine {
             core,
+            permit: Permit::none(),
             broken: false,
         })
     }
@@ -120,7 +127,7 @@ impl<D: Decider, C: KeptCode, L: Exceptions, U: SysTickState> Machine<D, C, L, U
         ensures few { length events.new.items ≤ MAX_EVENTS }
     {
         events.clear();
-        self.core.step(events);
+        self.core.step(events, &mut self.permit);
         prove!(events.len() <= MAX_EVENTS);
         self.core.stop()
     }
@@ -132,7 +139,7 @@ impl<D: Decider, C: KeptCode, L: Exceptions, U: SysTickState> Machine<D, C, L, U
         ensures state { self.new ≡ record self.old { state = (step self.old.state).state } }
         ensures events { S.emitted events.new ≡ with_emitted (S.emitted events.old) ((step self.old.state).events) }
     {
-        self.core.step(events);
+        self.core.step(events, &mut self.permit);
     }
 
     /// Makes a step and writes its lines. `room` is a buffer for one line, the same at each step. On an error
@@ -141,7 +148,7 @@ impl<D: Decider, C: KeptCode, L: Exceptions, U: SysTickState> Machine<D, C, L, U
         ensures state { self.new ≡ record self.old { state = (step self.old.state).state } }
         ensures put { Put (W.writing out.old) (W.writing out.new) (lines (step self.old.state).events) result }
     {
-        write_step(&mut self.core, out, room)
+        write_step(&mut self.core, &mut self.permit, out, room)
     }
 
     /// Makes at most `limit` steps, up to the first stop, and writes their trace.
@@ -201,7 +208,7 @@ impl<D: Decider, C: KeptCode, L: Exceptions, U: SysTickState> Machine<D, C, L, U
         if self.broken {
             return Err(RunError::Broken);
         }
-        match run_core::<V, D, C, L, U, W>(&mut self.core, limit, out) {
+        match run_core::<V, D, C, L, U, W>(&mut self.core, &mut self.permit, limit, out) {
             Ok(stop) => Ok(stop),
             Err(steps) => {
                 self.broken = true;
@@ -243,7 +250,7 @@ impl<D: Decider, C: KeptCode, L: Exceptions, U: SysTickState> Machine<D, C, L, U
         if !self.core.is_task() {
             return Ok(TaskEnd::NotTask);
         }
-        match run_task_core(&mut self.core, limit, out) {
+        match run_task_core(&mut self.core, &mut self.permit, limit, out) {
             Ok(end) => Ok(end),
             Err(steps) => {
                 self.broken = true;
@@ -272,6 +279,7 @@ impl<D: Decider, C: KeptCode, L: Exceptions, U: SysTickState> Machine<D, C, L, U
     pub fn place(&mut self, value: Place) -> Result<(), PlaceError>
         ensures { Places (place self.old.state value) self.old self.new result }
     {
+        self.permit = Permit::none();
         self.core.place(value)
     }
 
@@ -280,6 +288,7 @@ impl<D: Decider, C: KeptCode, L: Exceptions, U: SysTickState> Machine<D, C, L, U
     pub fn alter(&mut self, value: Place) -> Result<(), PlaceError>
         ensures { Places (altered self.old.state value) self.old self.new result }
     {
+        self.permit = Permit::none();
         self.core.alter(value)
     }
 
@@ -289,6 +298,7 @@ impl<D: Decider, C: KeptCode, L: Exceptions, U: SysTickState> Machine<D, C, L, U
     pub fn signal(&mut self, what: &Signal) -> Result<(), PlaceError>
         ensures { Places (signalled self.old.state what.now) self.old self.new result }
     {
+        self.permit = Permit::none();
         self.core.signal(what)
     }
 
@@ -313,6 +323,7 @@ impl<D: Decider, C: KeptCode, L: Exceptions, U: SysTickState> Machine<D, C, L, U
         requires { AreOfOneBoard self.old.state.bus saved.now.bus }
         ensures { self.new ≡ record self.old { state = saved.now } }
     {
+        self.permit = Permit::none();
         self.core.restore(saved);
     }
 

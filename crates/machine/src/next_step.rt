@@ -48,9 +48,21 @@ impl<D: Decider, C: KeptCode, L: Exceptions, U: SysTickState> Processor<D, C, L,
         }
     }
 
-    /// Returns the candidate after the next tick.
-    #[tactic(auto, using(crate::proofs::Foreseen::candidate_foreseen))]
+    /// Returns the candidate after the next tick. Where nothing is due at it, that is the one of now.
+    #[tactic(auto, using(scs::proofs::Passing::only_time_passes))]
     fn candidate_next(&self) -> Option<u16>
+        requires { self.now.bus.system.time.ticks < 2 ^ 48 }
+        ensures { result ≡ candidate (ticked self.now).bus.system.nvic }
+    {
+        if self.quiet_ticks() > 0 {
+            return self.bus().system.exceptions().candidate();
+        }
+        self.candidate_after_due()
+    }
+
+    /// Returns the candidate after the next tick, whatever is due at it.
+    #[tactic(auto, using(crate::proofs::Foreseen::candidate_foreseen))]
+    fn candidate_after_due(&self) -> Option<u16>
         requires { self.now.bus.system.time.ticks < 2 ^ 48 }
         ensures { result ≡ candidate (ticked self.now).bus.system.nvic }
     {
@@ -68,8 +80,11 @@ impl<D: Decider, C: KeptCode, L: Exceptions, U: SysTickState> Processor<D, C, L,
         ensures { result ≡ sleeps_on (ticked self.now) }
     {
         let system = &self.bus().system;
-        let due = system.peek();
-        self.is_asleep() && system.exceptions().candidate_after(&due, false).is_none()
+        self.is_asleep()
+            && system
+                .exceptions()
+                .candidate_after(&system.peek(), false)
+                .is_none()
     }
 
     /// Returns the rule that would decide an access of one kind to an address now, by code of that

@@ -1,10 +1,12 @@
 //! Runs of a task: Instruction steps alone, in unprivileged Thread mode.
 
 ghost use Rattle.std.specs.Prelude.{◌≡◌, ◌+◌, IfOk, IfErr, OnOk};
+ghost use Rattle.machine.specs.Permits.{PermitHolds};
 ghost use Rattle.machine.specs.Tasks.{TaskIsCut, TaskRuns, end_of};
 ghost use Rattle.task_laws.specs.Tasks.{is_task};
 
 use crate::next_step::is_instruction;
+use crate::permit::Permit;
 use crate::run::write_step;
 use crate::stepping::Processor;
 use access::{Decider, Exceptions, KeptCode, SysTickState};
@@ -25,13 +27,16 @@ impl<D: Decider, C: KeptCode, L: Exceptions, U: SysTickState> Processor<D, C, L,
     }
 }
 
-/// Makes at most `limit` steps, as long as they are Instruction steps, and writes their lines. Where the
-/// writer fails, returns how many steps were made.
+/// Makes at most `limit` steps, as long as they are Instruction steps, and writes their lines. A permit for the next
+/// step becomes one for the step after them. Where the writer fails, returns how many steps were made.
 pub fn run_task_core<D: Decider, C: KeptCode, L: Exceptions, U: SysTickState, W: Out>(
     core: &mut Processor<D, C, L, U>,
+    permit: &mut Permit,
     limit: u64,
     out: &mut W,
 ) -> Result<TaskEnd, u64>
+    requires { PermitHolds permit.old core.old }
+    ensures permit { PermitHolds permit.new core.new }
     ensures end { IfOk result (TaskRuns limit core.old (W.writing out.old) (W.writing out.new) core.new) }
     ensures quiet { OnOk result ((W.writing out.new).errors ≡ (W.writing out.old).errors) }
     ensures cut { IfErr result (TaskIsCut limit core.old (W.writing out.old) (W.writing out.new) core.new) }
@@ -44,7 +49,7 @@ pub fn run_task_core<D: Decider, C: KeptCode, L: Exceptions, U: SysTickState, W:
             break;
         }
         made += 1;
-        match write_step(core, out, &mut room) {
+        match write_step(core, permit, out, &mut room) {
             Ok(()) => {}
             Err(_) => return Err(made),
         }

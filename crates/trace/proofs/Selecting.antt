@@ -1,23 +1,20 @@
 -- The text of selected events: of one list after another, and of one event.
 use Rattle.std.proofs.Common.{◌≡◌, ℕ, Bool, true, false, List, [], ◌∷◌, ◌++◌, Option, Some, None, refl, sym, ap, ◌∙◌}
-use Rattle.std.proofs.Common.{append_assoc, cond, if◌then◌else◌, is_some, not, zero, suc, ◌&&◌}
+use Rattle.std.proofs.Common.{append_assoc, cond, if◌then◌else◌, zero, suc, ◌&&◌}
 use Rattle.std.proofs.lemmas.List.{append-nil}
-use Rattle.std.proofs.lemmas.List.Elements.{All-head, All-tail, filter-append, filter_map-append}
-use Rattle.std.proofs.lemmas.List.Sums.{AllPass-from_list_all}
-use Rattle.std.specs.List.{AllPass, cons_option, last_or, list_all}
+use Rattle.std.proofs.lemmas.List.Elements.{filter-append, filter_map-append}
+use Rattle.std.specs.List.{cons_option, last_or}
 use Rattle.std.specs.Option.{option_or}
 use Rattle.platform.specs.declared.event.Event.{Event}
 use Rattle.platform.specs.declared.event.EventKind.{EventKind}
-use Rattle.platform.specs.declared.event.EventKind.TheVariants.{Accessed, ConsoleByte, ReturnBegan, HandlerEntered}
-use Rattle.platform.specs.declared.event.EventKind.TheVariants.{FaultRecorded}
-use Rattle.platform.specs.Events.{byte_of, is_access_with}
+use Rattle.platform.specs.Events.{byte_of}
 use Rattle.reference.specs.Run.{after, events_of, trace}
 use Rattle.reference.specs.State.{State}
 use Rattle.reference.specs.Step.{step}
 use Rattle.platform.specs.Events.{line, lines}
 use Rattle.trace.specs.declared.selection.TraceSelection.{TraceSelection}
 use Rattle.trace.specs.declared.selection.TraceSelection.TheVariants as which
-use Rattle.trace.specs.Selection.{has_faulty_steps, has_refusal_or_fault, is_done_access, kinds_text, last_printed}
+use Rattle.trace.specs.Selection.{has_faulty_steps, has_refusal_or_fault, kinds_text, last_printed}
 use Rattle.trace.specs.Selection.{of_kinds}
 use Rattle.trace.specs.Selection.{printed, selected_text, selected_trace, selects, steps_text, text_as, writes_bytes}
 
@@ -193,45 +190,3 @@ byte_selected selection e byte chosen bare is =
     selected_alone selection e chosen
     ∙ ap (λ (b : Bool). if b then printed (e ∷ []) else lines (e ∷ [])) bare
     ∙ ap (λ (o : Option ℕ). cons_option o []) is
-
--- ---- accesses that were done
-
--- none of them is selected where a selection has none
-none_of_kinds : (selection : TraceSelection) (es : List Event)
-    → ((e : Event) → is_done_access e ≡ true → selects selection e.what ≡ false)
-    → AllPass is_done_access es → of_kinds selection es ≡ []
-none_of_kinds selection [] none done = refl
-none_of_kinds selection (e ∷ es) none done =
-    ap (λ (b : Bool). cond b (e ∷ of_kinds selection es) (of_kinds selection es))
-    (none e (All-head (λ x. is_done_access x ≡ true) e es done))
-    ∙ none_of_kinds selection es none (All-tail (λ x. is_done_access x ≡ true) e es done)
-
--- they have no text there
-pub done_text : (selection : TraceSelection) (es : List Event)
-    → ((e : Event) → is_done_access e ≡ true → selects selection e.what ≡ false)
-    → list_all is_done_access es ≡ true → kinds_text selection es ≡ []
-done_text selection es none done =
-    ap (text_as selection) (none_of_kinds selection es none (AllPass-from_list_all is_done_access es done))
-    ∙ kinds-nil selection
-
--- no access prints a byte
-no_byte : (what : EventKind) → is_access_with (λ d. not (is_some d.refused)) what ≡ true
-    → selects which.Console what ≡ false
-no_byte (Accessed a) done = refl
-no_byte (ConsoleByte byte) done = absurd cc
-no_byte (ReturnBegan exc_return) done = absurd cc
-no_byte (HandlerEntered exception) done = absurd cc
-no_byte (FaultRecorded fault) done = absurd cc
-
--- they don't change the last byte that was printed
-pub done_prints : (selection : TraceSelection) (before es : List Event) → list_all is_done_access es ≡ true
-    → last_printed selection (before ++ es) ≡ last_printed selection before
-done_prints which.All before es done = refl
-done_prints which.Refused before es done = refl
-done_prints which.Faults before es done = refl
-done_prints which.Exceptions before es done = refl
-done_prints which.Console before es done =
-    last_joined before es
-    ∙ ap (λ (text : List ℕ). option_or (last_or None text) (last_printed which.Console before))
-    (done_text which.Console es (λ e. no_byte e.what) done)
-done_prints which.Nothing before es done = refl

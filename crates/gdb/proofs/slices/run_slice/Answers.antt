@@ -1,9 +1,9 @@
-use Rattle.std.proofs.Common.{◌≡◌, ◌+◌, ◌-◌, ◌<◌, ◌≤◌, ◌++◌, ℕ, [], None, refl, sym, ◌∙◌}
+use Rattle.std.proofs.Common.{◌≡◌, ◌+◌, ◌-◌, ◌<◌, ◌≤◌, ◌++◌, [], None, refl, sym, ◌∙◌}
 use Rattle.std.proofs.Common.{ap, arith, is_some, true, false}
-use Rattle.gdb.proofs.Slicing.{all_delivered, ended_before, ends_in, flow_made, continues, has_pieces, left_at}
+use Rattle.gdb.proofs.Slicing.{all_delivered, before_is, continues, ended_before, ends_in, flow_made, has_pieces}
+use Rattle.gdb.proofs.Slicing.{left_at}
 use Rattle.gdb.proofs.Slicing.{more_delivered}
 use Rattle.gdb.proofs.Slicing.{next_cut, none_left, not_before, nothing_yet, step_leaves}
-use Rattle.gdb.specs.Reasons.{reason_before}
 use Rattle.gdb_past.proofs.Following.{same_refl, same_trans}
 use Rattle.gdb.specs.Slices.{Flow, Progress, Sliced, before_step, flow, one_step, slice}
 use Rattle.gdb.proofs.slices.run_slice.Goals as goal
@@ -24,8 +24,8 @@ returns-then-is_some-clause-delivers g c =
     let p = c.args.plan.now in
     let points = c.args.points.now in
     let before : c.reason_before-before.result ≡ before_step p points f =
-    c.reason_before-before.ensures
-    ∙ ap (λ (m : ℕ). reason_before points.breakpoints p.limit p.how m c.steps.machine.state) c.made.ensures in
+    before_is p points c.steps.progress c.steps.machine.state c.made.result c.returns_to.result
+    c.reason_before-before.result c.reason_before-before.ensures c.made.ensures c.returns_to.ensures in
     let has : is_some c.reason_before-before.result ≡ true = cc in
     all_delivered _ _ _ _ _ _ c.steps.invariant.slides (ap (λ (r : Sliced). r.pieces)
     (ended_before p points c.steps.left f _ c.steps-test.true before has))
@@ -36,8 +36,8 @@ returns-then-is_some-clause-slices g c =
     let p = c.args.plan.now in
     let points = c.args.points.now in
     let before : c.reason_before-before.result ≡ before_step p points f =
-    c.reason_before-before.ensures
-    ∙ ap (λ (m : ℕ). reason_before points.breakpoints p.limit p.how m c.steps.machine.state) c.made.ensures in
+    before_is p points c.steps.progress c.steps.machine.state c.made.result c.returns_to.result
+    c.reason_before-before.result c.reason_before-before.ensures c.made.ensures c.returns_to.ensures in
     let has : is_some c.reason_before-before.result ≡ true = cc in
     left_at _ _ _ _ _ _ _ [] f _ c.steps.invariant.slides
     (ended_before p points c.steps.left f _ c.steps-test.true before has) c.forget.ensures
@@ -54,8 +54,8 @@ returns-in-Ok-Some-clause-delivers g c =
     let p = c.args.plan.now in
     let points = c.args.points.now in
     let before : c.reason_before-before.result ≡ before_step p points f =
-    c.reason_before-before.ensures
-    ∙ ap (λ (m : ℕ). reason_before points.breakpoints p.limit p.how m c.steps.machine.state) c.made.ensures in
+    before_is p points c.steps.progress c.steps.machine.state c.made.result c.returns_to.result
+    c.reason_before-before.result c.reason_before-before.ensures c.made.ensures c.returns_to.ensures in
     let none : is_some c.reason_before-before.result ≡ false = cc in
     let made = rw c.in-Ok-Some.field-0-is at c.in-Ok-Some.ensures in
     all_delivered _ _ _ _ _ _
@@ -69,8 +69,8 @@ returns-in-Ok-Some-clause-slices g c =
     let p = c.args.plan.now in
     let points = c.args.points.now in
     let before : c.reason_before-before.result ≡ before_step p points f =
-    c.reason_before-before.ensures
-    ∙ ap (λ (m : ℕ). reason_before points.breakpoints p.limit p.how m c.steps.machine.state) c.made.ensures in
+    before_is p points c.steps.progress c.steps.machine.state c.made.result c.returns_to.result
+    c.reason_before-before.result c.reason_before-before.ensures c.made.ensures c.returns_to.ensures in
     let none : is_some c.reason_before-before.result ≡ false = cc in
     let made = rw c.in-Ok-Some.field-0-is at c.in-Ok-Some.ensures in
     left_at _ _ _ _ _ _ _ _ (one_step p points f).flow _
@@ -95,8 +95,8 @@ returns-in-Err-clause-delivers g c =
     let p = c.args.plan.now in
     let points = c.args.points.now in
     let before : c.reason_before-before.result ≡ before_step p points f =
-    c.reason_before-before.ensures
-    ∙ ap (λ (m : ℕ). reason_before points.breakpoints p.limit p.how m c.steps.machine.state) c.made.ensures in
+    before_is p points c.steps.progress c.steps.machine.state c.made.result c.returns_to.result
+    c.reason_before-before.result c.reason_before-before.ensures c.made.ensures c.returns_to.ensures in
     let none : is_some c.reason_before-before.result ≡ false = cc in
     next_cut _ _ _ (one_step p points f).pieces _ _ _ _ _ _ c.steps.invariant.slides
     (has_pieces p points c.steps.left f c.steps-test.true (not_before _ _ before none)) c.in-Err.ensures.delivers
@@ -108,8 +108,8 @@ steps-preserved g c =
     let p = c.args.plan.now in
     let points = c.args.points.now in
     let before : c.reason_before-before.result ≡ before_step p points f =
-    c.reason_before-before.ensures
-    ∙ ap (λ (m : ℕ). reason_before points.breakpoints p.limit p.how m c.steps.machine.state) c.made.ensures in
+    before_is p points c.steps.progress c.steps.machine.state c.made.result c.returns_to.result
+    c.reason_before-before.result c.reason_before-before.ensures c.made.ensures c.returns_to.ensures in
     let none : is_some c.reason_before-before.result ≡ false = cc in
     let made = rw c.in-Ok-None.field-0-is at c.in-Ok-None.ensures in
     let more : c.make_step.new.progress.made ≡ (one_step p points f).flow.made =

@@ -15,7 +15,7 @@ steps-init g c = record {
   shown = rw (none_shown g.V.View.SELECTION c.args.core.now) (Appends-nil _);
   printed = none_printed g.V.View.SELECTION c.args.core.now;
   same = refl;
-  permit = λ given. absurd cc;
+  permit = c.requires;
 }
 
 pub steps-preserved : goal.steps-preserved

@@ -26,8 +26,8 @@ returns-clause-put g c =
     c.new-events.result.history.items)
     (emission g.W.Out.writing c.step.new.events.out.ghost_name c.step.new.events.out.now
     c.step.new.events.history.items)
-    (step c.args.core.now).events c.end.result start c.step.ensures.events c.end.ensures) in
-    let went = c.step.ensures.events in
+    (step c.args.core.now).events c.end.result start c.step.ensures.step.events c.end.ensures) in
+    let went = c.step.ensures.step.events in
     let named : c.new-events.result.out.ghost_name ≡ c.step.new.events.out.ghost_name =
     sym (ap (λ (e : Emission). e.writer) start)
     ∙ sym (ap (λ (e : Emission). e.writer) went)

@@ -13,6 +13,7 @@ steps-init g c = record {
   made = λ k below. absurd (omega arith);
   written = rw (none_shown c.args.core.now) (Appends-nil _);
   same = refl;
+  permit = c.requires;
 }
 
 pub steps-preserved : goal.steps-preserved
@@ -24,6 +25,7 @@ steps-preserved g c =
       made = instruction_on _ _ _ c.steps.invariant.made c.steps.invariant.core next;
       written = shown_on _ _ _ _ _ _ _ c.steps.invariant.written c.in-Ok.ensures.put.0 refl c.steps.invariant.core;
       same = c.in-Ok.ensures.put.1 ∙ c.steps.invariant.same;
+      permit = c.write_step.ensures.permit;
     }
 
 pub returns-in-Err-clause-cut : goal.returns-in-Err-clause-cut

@@ -1,6 +1,7 @@
 use Rattle.std.proofs.Common.{◌≡◌, ◌-◌, ◌≤◌}
 use Rattle.std.specs.Io.KnownBytes.{Appends}
 use Rattle.reference.specs.Run.{after, events_of}
+use Rattle.machine.specs.Permits.{PermitHolds}
 use Rattle.platform.specs.Events.{lines}
 use Rattle.task_laws.specs.Tasks.{AreInstructions}
 use Rattle.machine.proofs.task.run_task_core.Given as goal
@@ -13,6 +14,7 @@ invariant-steps g l = record {
   written : Appends (g.W.Out.writing l.fn.out).written (g.W.Out.writing l.out).written
       (lines (events_of l.made l.fn.core));
   same : (g.W.Out.writing l.out).errors ≡ (g.W.Out.writing l.fn.out).errors;
+  permit : PermitHolds l.permit l.core;
 }
 
 abbrev pub decreases-steps : goal.decreases-steps
