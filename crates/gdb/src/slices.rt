@@ -60,7 +60,7 @@ impl Model for Progress {
 }
 
 impl Progress {
-    /// Returns what a run has made by the begin of a turn: how many steps, and text with this last byte. `returns_to` is
+    /// Returns what a run has made when a turn begins: how many steps, and text with this last byte. `returns_to` is
     /// the code that its unit returns to.
     pub fn new(made: u64, last: Option<u8>, returns_to: Option<ReturnPoint>) -> Self
         ensures { result ≡ record {
