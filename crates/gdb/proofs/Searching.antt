@@ -32,7 +32,7 @@ one_more q points k m s low n tick steps why found at is here says so_far =
 
 -- ---- part by part
 
--- the state of the machine so many steps after a mark
+-- the state of the machine this far after a mark
 pub here_after : (past now : Past) (number from : ℕ) (m : State) (old new : MachineModel) → past ≡ now
     → new ≡ record old { state = after from (slice_index_or past.marks number m) }
     → new.state ≡ after from (slice_index_or now.marks number m)

@@ -35,7 +35,7 @@ pub record AreRight (start m : State) (cs : Checkpoints) : Type 0 where
   pub before : All (λ c. c.generation ≤ cs.generation) cs.slots
   pub right : All (λ c. IsRight m cs.generation c) cs.slots
 
--- a checkpoint, by its number, can be used for a place that is at least so many steps after the mark
+-- a checkpoint, by its number, can be used for a place that is `most` steps after the mark, or later
 pub record IsNear (cs : Checkpoints) (most number : ℕ) : Type 0 where
   pub there : number < max_checkpoints
   pub used : cs.generation < last_generation

@@ -125,7 +125,7 @@ impl<L: Exceptions, U: SysTickState> Checkpoints<L, U> {
         self.generation = self.generation.saturating_add(1);
     }
 
-    /// Keeps the machine's state, so many steps after the mark, in a slot.
+    /// Keeps the machine's state, `steps` steps after the mark, in a slot.
     pub fn save_to<D: Decider, C: KeptCode>(
         &mut self,
         slot: usize,
@@ -140,7 +140,7 @@ impl<L: Exceptions, U: SysTickState> Checkpoints<L, U> {
         self.slots[slot].set(steps, self.generation, machine);
     }
 
-    /// Returns whether a checkpoint is of this mark, at most so many steps after it, and at least as many as `least`.
+    /// Returns whether a checkpoint is of this mark, from `least` to `most` steps after it.
     fn is_between(&self, number: usize, least: u64, most: u64) -> bool
         requires { number < max_checkpoints }
         ensures { result ≡ true → IsNear self.now most number }
@@ -152,7 +152,7 @@ impl<L: Exceptions, U: SysTickState> Checkpoints<L, U> {
             && slot.steps() >= least
     }
 
-    /// Returns the later one of two checkpoints, if the second one is at most so many steps after the mark.
+    /// Returns the later one of two checkpoints, if the second one is at most `most` steps after the mark.
     fn later(&self, best: Option<usize>, number: usize, most: u64) -> Option<usize>
         requires number { number < max_checkpoints }
         requires best { IfSome best (λ n. IsNear self.now most n) }
@@ -169,7 +169,7 @@ impl<L: Exceptions, U: SysTickState> Checkpoints<L, U> {
         }
     }
 
-    /// Returns the last checkpoint that is at most so many steps after the mark, if there is one.
+    /// Returns the last checkpoint that is at most `most` steps after the mark, if there is one.
     fn nearest(&self, most: u64) -> Option<usize>
         ensures { IfSome result (λ number. IsNear self.now most number) }
     {
@@ -180,7 +180,7 @@ impl<L: Exceptions, U: SysTickState> Checkpoints<L, U> {
         best
     }
 
-    /// Takes the machine to the last checkpoint that is at most so many steps after the mark, if there is one. Returns
+    /// Takes the machine to the last checkpoint that is at most `most` steps after the mark, if there is one. Returns
     /// how many.
     pub fn restore<D: Decider, C: KeptCode>(
         &self,

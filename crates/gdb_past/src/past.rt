@@ -177,7 +177,7 @@ impl<L: Exceptions, U: SysTickState> Past<L, U> {
         }
     }
 
-    /// Keeps a checkpoint in a slot where the machine is, so many steps after the last mark.
+    /// Keeps a checkpoint in a slot where the machine is, `steps` steps after the last mark.
     fn save_to<D: Decider, C: KeptCode>(
         &mut self,
         slot: usize,

@@ -6,7 +6,7 @@ use Rattle.reference.specs.Run.{after}
 use Rattle.reference.specs.State.{State}
 use Rattle.gdb_past.proofs.past.Past.save_to.Goals as goal
 
--- the machine is so many steps after the mark that the checkpoints are of
+-- the machine is this far after the mark that the checkpoints are of
 here : (start s : State) (xs : List State) (count steps : ℕ) → 0 < count → 0 < length xs
     → ((m : State) → s ≡ after steps (slice_index_or (take count xs) 0 m))
     → s ≡ after steps (slice_index_or xs 0 start)
