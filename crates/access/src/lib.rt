@@ -14,7 +14,7 @@ pub use instruction_set::size::Size;
 pub use kept_code::KeptCode;
 pub use mpu::{Decider, GrantedSpan, Search};
 pub use nvic::{Exceptions, PlainExceptions};
+pub use physical_memory::{Layout, PhysicalMemory};
 pub use platform::access::{Cause, Decision, DoneAccess, Kind, Performed, Request, Rule};
 pub use platform::stop::Stop;
 pub use scs::{SavedSystem, System};
-pub use space::{Layout, Space};

@@ -40,7 +40,7 @@ impl<D: Decider, C: KeptCode, L: Exceptions, U: SysTickState> Bus<D, C, L, U> {
         if is_in_window(address) {
             return self.peek_window(address);
         }
-        self.space().number(address, Size::Word)
+        self.memory().number(address, Size::Word)
     }
 
     /// Returns the word that the device window has at an address: TICK alone can be read.

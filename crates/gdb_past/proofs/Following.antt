@@ -9,7 +9,7 @@ use Rattle.platform.specs.Memory.{Memory}
 use Rattle.reference.specs.Run.{after}
 use Rattle.reference.specs.State.{State}
 use Rattle.reference.specs.Step.{step}
-use Rattle.space.specs.Sizes.{HaveSameSizes}
+use Rattle.physical_memory.specs.Sizes.{HaveSameSizes}
 use Rattle.step_laws.proofs.Sizes.{step_board}
 use Rattle.step_laws.specs.SizeLaw.{AreOfOneBoard}
 

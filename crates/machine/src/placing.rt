@@ -86,7 +86,7 @@ impl<D: Decider, C: KeptCode, L: Exceptions, U: SysTickState> Processor<D, C, L,
             Place::Reg(number, _) => number < 16,
             Place::Special(number, _) => SpecialRegister::of(number).is_some(),
             Place::Word(address, _) => {
-                self.bus().space().is_in_memory(address, 4)
+                self.bus().memory().is_in_memory(address, 4)
                     || is_in_ppb(address)
                     || self.bus().system.has_device_at(address)
             }
@@ -101,7 +101,7 @@ impl<D: Decider, C: KeptCode, L: Exceptions, U: SysTickState> Processor<D, C, L,
             Place::Reg(number, _) => number < SP || number == LR,
             Place::Special(_, _) => false,
             Place::Word(address, _) => {
-                self.bus().space().is_in_memory(address, 4) && !is_in_ppb(address)
+                self.bus().memory().is_in_memory(address, 4) && !is_in_ppb(address)
             }
         }
     }
@@ -134,7 +134,7 @@ impl<D: Decider, C: KeptCode, L: Exceptions, U: SysTickState> Processor<D, C, L,
                 if is_in_ppb(address) {
                     return self.take_register(address, value);
                 }
-                if self.bus().space().is_in_memory(address, 4) {
+                if self.bus().memory().is_in_memory(address, 4) {
                     self.put_word(address, value);
                 } else {
                     self.take_signal(&Signal::Poke(Poke { address, value }));

@@ -86,14 +86,14 @@ impl<D: Decider, C: KeptCode, L: Exceptions, U: SysTickState> Processor<D, C, L,
     pub fn byte(&self, address: u32) -> Option<u8>
         ensures { result ≡ byte_at self.now.bus.memory address }
     {
-        self.bus().space().byte(address)
+        self.bus().memory().byte(address)
     }
 
     /// Returns whether `length` bytes from an address on lie wholly in one block of memory.
     pub fn has_memory(&self, address: u32, length: usize) -> bool
         ensures { result ≡ is_in_memory self.now.bus.memory address length }
     {
-        self.bus().space().is_in_memory(address, length)
+        self.bus().memory().is_in_memory(address, length)
     }
 
     /// Returns the byte at an address that memory or the word of a device has, if one does. Nothing changes: no load

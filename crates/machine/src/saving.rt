@@ -3,7 +3,7 @@
 ghost use Rattle.std.specs.Prelude.{◌≡◌, IfOk};
 ghost use Rattle.step_laws.specs.SizeLaw.{AreOfOneBoard};
 
-use access::{Decider, Exceptions, KeptCode, SavedSystem, Space, SysTickState};
+use access::{Decider, Exceptions, KeptCode, PhysicalMemory, SavedSystem, SysTickState};
 use exceptions::Core;
 use platform::stop::Stop;
 use regs::Regs;
@@ -15,7 +15,7 @@ use std::marker::Model;
 #[derive(Drop)]
 pub struct SavedState<L: Exceptions, U: SysTickState> {
     regs: Regs,
-    memory: Space,
+    memory: PhysicalMemory,
     system: SavedSystem<L, U>,
     asleep: bool,
     entry: Option<u32>,
@@ -44,7 +44,7 @@ impl<L: Exceptions, U: SysTickState> SavedState<L, U> {
     ) -> Result<Self, AllocError>
         ensures { IfOk result (λ saved. saved ≡ core.now) }
     {
-        let memory = core.bus.space().copied(alloc)?;
+        let memory = core.bus.memory().copied(alloc)?;
         let system = core.bus.system.save(alloc)?;
         Ok(SavedState {
             regs: core.regs.copied(),
@@ -62,7 +62,7 @@ impl<L: Exceptions, U: SysTickState> SavedState<L, U> {
         ensures { self.new ≡ core.now }
     {
         self.regs = core.regs.copied();
-        self.memory.copy_from(core.bus.space());
+        self.memory.copy_from(core.bus.memory());
         core.bus.system.save_to(&mut self.system);
         self.asleep = core.asleep;
         self.entry = core.entry;

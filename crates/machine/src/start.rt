@@ -15,11 +15,11 @@ use access::{Bus, CodeMemory, Decider, Exceptions, KeptCode, Script, SysTickStat
 use board::Board;
 use devices::Devices;
 use elf::{Image, Segment};
+use physical_memory::{PhysicalMemory, is_within};
 use platform::board::Layout;
 use platform::error::StartError;
 use platform::map::RAM_BASE;
 use regs::Regs;
-use space::{Space, is_within};
 use std::alloc::Global;
 
 /// Makes the core of a board, with an image in its memory, before the first step. The segments are
@@ -35,7 +35,7 @@ pub fn start_core<D: Decider, C: KeptCode, L: Exceptions, U: SysTickState>(
     if !are_placed(&board.layout, image.segments()) {
         return Err(StartError::SegmentOutsideMemory);
     }
-    let Ok(mut space) = Space::blank(alloc, &board.layout) else {
+    let Ok(mut physical) = PhysicalMemory::blank(alloc, &board.layout) else {
         return Err(StartError::NoMemory);
     };
     let Ok(script) = Script::new(alloc, board.events.as_slice()) else {
@@ -44,10 +44,10 @@ pub fn start_core<D: Decider, C: KeptCode, L: Exceptions, U: SysTickState>(
     let Ok(devices) = Devices::new(alloc, board.devices.as_slice()) else {
         return Err(StartError::NoMemory);
     };
-    load_segments(&mut space, image.segments());
+    load_segments(&mut physical, image.segments());
     let regs = Regs::reset(
-        space.vector(board.layout.flash_base, 0),
-        space.vector(board.layout.flash_base, 1),
+        physical.vector(board.layout.flash_base, 0),
+        physical.vector(board.layout.flash_base, 1),
     );
     let system = System::reset(
         board.layout.flash_base,
@@ -57,7 +57,7 @@ pub fn start_core<D: Decider, C: KeptCode, L: Exceptions, U: SysTickState>(
         script,
         devices,
     );
-    let Ok(memory) = CodeMemory::new(alloc, space, image_bytes(image.segments())) else {
+    let Ok(memory) = CodeMemory::new(alloc, physical, image_bytes(image.segments())) else {
         return Err(StartError::NoMemory);
     };
     Ok(Processor::new(regs, Bus::new(memory, system)))
@@ -99,7 +99,7 @@ fn is_placed(board: &Layout, segment: &Segment<'_>) -> bool
 }
 
 /// Returns whether `length` bytes from `address` on lie wholly in the second RAM of a board.
-#[tactic(auto, using(space::proofs::Places::ends_low))]
+#[tactic(auto, using(physical_memory::proofs::Places::ends_low))]
 fn is_in_second(board: &Layout, address: u32, length: usize) -> bool
     ensures { result ≡ is_in_memory (blank_second (numbers_of board.now).second_ram) address length }
 {
@@ -110,10 +110,10 @@ fn is_in_second(board: &Layout, address: u32, length: usize) -> bool
 }
 
 /// Puts the segments into memory, in their order.
-fn load_segments(space: &mut Space, segments: &[Segment<'_>])
-    ensures { space.new ≡ image_loaded space.old (map segment_of segments.now) }
+fn load_segments(memory: &mut PhysicalMemory, segments: &[Segment<'_>])
+    ensures { memory.new ≡ image_loaded memory.old (map segment_of segments.now) }
 {
     'segments: for segment in segments {
-        space.overwrite(segment.address, segment.bytes);
+        memory.overwrite(segment.address, segment.bytes);
     }
 }

@@ -9,10 +9,10 @@ ghost use Rattle.platform.specs.Boards.{blank, blank_second};
 
 use crate::header::{HeaderTable, NumberedSegment, segment_at, whole_table};
 use elf::{PROGRAM_HEADER_SIZE, Segment};
+use physical_memory::is_within;
 use platform::board::Layout;
 use platform::error::StartError;
 use platform::map::RAM_BASE;
-use space::is_within;
 use std::io;
 use std::io::Write;
 

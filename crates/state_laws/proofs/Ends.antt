@@ -51,7 +51,7 @@ use Rattle.state_laws.specs.StateLaw.{IfGiven, TickKeeps, AccessKeeps, Instructi
 use Rattle.state_laws.proofs.Accesses.{IsWholeBus, carried_whole, perform_whole, served_whole}
 use Rattle.state_laws.proofs.Effects.{register_kept, result_kept}
 use Rattle.state_laws.proofs.Entries.{none}
-use Rattle.space.proofs.Blocks.{overwritten_laid_out}
+use Rattle.physical_memory.proofs.Blocks.{overwritten_laid_out}
 use Rattle.state_laws.proofs.Memories.{start_laid_out}
 use Rattle.state_laws.proofs.Registers.{writes_kept, special_kept, reset_has}
 use Rattle.state_laws.proofs.Sets.{top_bits_of_board, board_of, board_at_reset}

@@ -16,9 +16,9 @@ use Rattle.platform.specs.Map.{are_apart, is_for_memory, is_in_window, ram_base}
 use Rattle.platform.specs.Memory.{Memory, is_writable_at, bytes_of, overwritten}
 use Rattle.platform.specs.Outcomes.{Outcome}
 use Rattle.platform.specs.Space.{written_to, memory_access}
-use Rattle.space.specs.Spaces.{IsSecondInPlace, flash_block, ram_block}
-use Rattle.space.proofs.Blocks.{overwritten_laid_out}
-use Rattle.space.proofs.Places.{laid_out}
+use Rattle.physical_memory.specs.MemoryBlocks.{IsSecondInPlace, flash_block, ram_block}
+use Rattle.physical_memory.proofs.Blocks.{overwritten_laid_out}
+use Rattle.physical_memory.proofs.Places.{laid_out}
 
 -- the blocks are laid out after an access
 abbrev LeavesLaidOut : Outcome Memory → Type 0

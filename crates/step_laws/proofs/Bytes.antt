@@ -20,8 +20,8 @@ use Rattle.platform.specs.System.{device_access, system_access}
 use Rattle.reference.specs.State.{Bus, State}
 use Rattle.reference.specs.Step.{step}
 use Rattle.step_laws.specs.AccessLaw.{are_covering, OnlyCovered}
-use Rattle.space.proofs.Blocks.{IsOutside, agree_where, is_outside, is_outside_of, overwritten_agrees}
-use Rattle.space.proofs.Bytes.{length-bytes_of}
+use Rattle.physical_memory.proofs.Blocks.{IsOutside, agree_where, is_outside, is_outside_of, overwritten_agrees}
+use Rattle.physical_memory.proofs.Bytes.{length-bytes_of}
 use Rattle.step_laws.proofs.BusRules.{BusRules, bus_keeps}
 use Rattle.step_laws.proofs.Lines.{covered-append, covered-more, covered-same, is_false}
 

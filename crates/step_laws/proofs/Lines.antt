@@ -14,7 +14,7 @@ use Rattle.reference.specs.declared.failure.Failure.TheVariants.{Refused, Usage,
 use Rattle.platform.specs.Events.{is_refused}
 use Rattle.platform.specs.Memory.{Memory}
 use Rattle.step_laws.specs.AccessLaw.{NoneRefused, covers, are_covering, OnlyCovered}
-use Rattle.space.proofs.Blocks.{agree_self, agree_then, agree_where}
+use Rattle.physical_memory.proofs.Blocks.{agree_self, agree_then, agree_where}
 
 -- ---- refusals
 

@@ -19,8 +19,8 @@ use Rattle.reference.specs.Places.{altered, is_plain, is_there, is_wired, is_wor
 use Rattle.reference.specs.Places.{special_taken, store_of, taken}
 use Rattle.reference.specs.State.{Bus, State}
 use Rattle.reference.specs.Step.{step}
-use Rattle.space.proofs.Blocks.{agree_back, agree_self, agree_then, agree_where, overwritten_agrees}
-use Rattle.space.specs.Sizes.{HaveSameSizes}
+use Rattle.physical_memory.proofs.Blocks.{agree_back, agree_self, agree_then, agree_where, overwritten_agrees}
+use Rattle.physical_memory.specs.Sizes.{HaveSameSizes}
 use Rattle.step_laws.proofs.Bytes.{step_covered}
 use Rattle.step_laws.proofs.Devices.{devices_refl, devices_sym, devices_trans, ppb_devices, signal_devices}
 use Rattle.step_laws.proofs.Devices.{step_devices}

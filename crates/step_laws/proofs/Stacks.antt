@@ -12,8 +12,8 @@ use Rattle.platform.specs.Memory.{Memory, byte_at, bytes_of}
 use Rattle.reference.specs.State.{Bus}
 use Rattle.platform.specs.SystemInvariant.{IsLaidOut}
 use Rattle.step_laws.specs.FrameLaw.{KeepsFrame}
-use Rattle.space.proofs.Blocks.{overwritten_keeps, overwritten_laid_out}
-use Rattle.space.proofs.Places.{ends_low, in_place, writable_is_there}
+use Rattle.physical_memory.proofs.Blocks.{overwritten_keeps, overwritten_laid_out}
+use Rattle.physical_memory.proofs.Places.{ends_low, in_place, writable_is_there}
 use Rattle.step_laws.proofs.Stored.{IsWord, word_written, word_read}
 use Rattle.step_laws.proofs.Pushed.{IsPushed, push_of, push_done, pop_of, pop_done}
 

@@ -5,8 +5,8 @@ use Rattle.std.proofs.lemmas.Bool.Decides.{nat_tests}
 use Rattle.platform.specs.Memory.{Block, Memory, block_at, block_with, byte_at, bytes_of, holds, is_in_memory}
 use Rattle.platform.specs.Memory.{number_at, number_in, overwritten, with_bytes}
 use Rattle.platform.specs.SystemInvariant.{IsApartFrom, IsLaidOut}
-use Rattle.space.proofs.Bytes.{length-with_bytes, written_in}
-use Rattle.space.proofs.Restoring.{not_here, over_here, over_later}
+use Rattle.physical_memory.proofs.Bytes.{length-with_bytes, written_in}
+use Rattle.physical_memory.proofs.Restoring.{not_here, over_here, over_later}
 
 -- the bytes at an address are those of a word
 abbrev pub IsWord : Memory → ℕ → ℕ → Type 0

@@ -4,7 +4,7 @@ use Rattle.std.specs.Prelude.{Result, Ok, Err}
 use Rattle.devices.specs.Copies.{HaveSameDevices}
 use Rattle.platform.specs.declared.error.PlaceError.{PlaceError}
 use Rattle.reference.specs.State.{Bus, State}
-use Rattle.space.specs.Sizes.{HaveSameSizes}
+use Rattle.physical_memory.specs.Sizes.{HaveSameSizes}
 
 -- two buses of one board: the memories have the same sizes, and the devices are the same
 abbrev pub AreOfOneBoard : Bus → Bus → Type 0

@@ -33,9 +33,9 @@ use Rattle.task_laws.specs.TaskLaw.{IsOfTask, AreOfTask}
 use Rattle.task_laws.proofs.Blocks.{decided_alike, one_block}
 use Rattle.task_laws.proofs.Memories.{rest_kept}
 use Rattle.task_laws.proofs.Priorities.{Decides, device_decides, system_decides}
-use Rattle.space.proofs.Blocks.{AllIn, agree_then, both, both_by, in_memory_alike, number_alike, writable_alike}
-use Rattle.space.proofs.Blocks.{written_alike}
-use Rattle.space.proofs.Bytes.{length-bytes_of}
+use Rattle.physical_memory.proofs.Blocks.{AllIn, agree_then, both, both_by, in_memory_alike, number_alike, writable_alike}
+use Rattle.physical_memory.proofs.Blocks.{written_alike}
+use Rattle.physical_memory.proofs.Bytes.{length-bytes_of}
 
 -- ---- what a granted access may read and write
 

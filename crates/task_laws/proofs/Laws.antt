@@ -22,7 +22,7 @@ use Rattle.task_laws.specs.TaskLaw.{UnprivilegedRunLaw, EndsAlike}
 use Rattle.task_laws.specs.Tasks.{AreInstructions, EndsTask, runs_unprivileged}
 use Rattle.task_laws.proofs.Accesses.{Alike, perform_alike}
 use Rattle.task_laws.proofs.Instructions.{instruction_is, instruction_says}
-use Rattle.space.proofs.Blocks.{agree_self, laid_out_alike}
+use Rattle.physical_memory.proofs.Blocks.{agree_self, laid_out_alike}
 use Rattle.task_laws.proofs.Priorities.{Decides}
 use Rattle.task_laws.proofs.Steps.{Ready, SameStep, instruction_there, step_alike}
 use Rattle.task_laws.proofs.Tasks.{Parts, parts_of, has_parts, uses_kept}

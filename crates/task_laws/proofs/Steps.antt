@@ -52,7 +52,7 @@ use Rattle.task_laws.specs.TaskLaw.{IsOfTask, AreOfTask, AskOfTask}
 use Rattle.task_laws.proofs.Accesses.{Alike, SameOutcome, SameList, outcome_with, list_with, with_memory_of}
 use Rattle.task_laws.proofs.Accesses.{perform_alike, all_alike}
 use Rattle.task_laws.proofs.Instructions.{IsInstruction, awoken, step_is}
-use Rattle.space.proofs.Blocks.{both}
+use Rattle.physical_memory.proofs.Blocks.{both}
 use Rattle.task_laws.proofs.Priorities.{Decides, pending_alike, tick_decides}
 use Rattle.task_laws.proofs.Requests.{plan_asked, fetch_of}
 use Rattle.task_laws.proofs.Unprivileged.{IsUnprivileged, writes_kept, not_handler, unprivileged_is, special_kept}

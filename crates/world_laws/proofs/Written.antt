@@ -9,7 +9,7 @@ use Rattle.platform.specs.declared.access.Decision.{Decision}
 use Rattle.platform.specs.declared.access.Kind.TheVariants.{Store}
 use Rattle.platform.specs.Memory.{Agree, Block, BlocksAgree, Memory}
 use Rattle.reference.specs.State.{State}
-use Rattle.space.proofs.Blocks.{agree_self}
+use Rattle.physical_memory.proofs.Blocks.{agree_self}
 use Rattle.task_laws.specs.Sight.{KeepsDenied, Same, denies_store, is_seen}
 use Rattle.world_laws.specs.WorldLaw.{AgreeButRams, AgreeButWritten, HaveSameRams, may_write, with_rams, with_rams_of}
 use Rattle.world_run.specs.WorldRuns.{world_of}

@@ -53,8 +53,8 @@ S word E000ED98 00000008 p | - stop | a region number that isn't there";
 
 #[test]
 fn each_access_is_decided_in_the_state_before_it(rt: HostRuntime) -> Result<(), Fail> {
-    let space = blank(rt.alloc()).ok_or("memory")?;
-    let memory = CodeMemory::new(rt.alloc(), space, 0x800)?;
+    let memory = blank(rt.alloc()).ok_or("memory")?;
+    let memory = CodeMemory::new(rt.alloc(), memory, 0x800)?;
     let bus = Bus::new(
         memory,
         System::reset(
@@ -69,6 +69,6 @@ fn each_access_is_decided_in_the_state_before_it(rt: HostRuntime) -> Result<(), 
     let mut accesses = Accesses { bus };
     check(ACCESSES, &mut accesses)?;
     assert!(rt; accesses.bus.system.region(3) == Some((0x2000_0403, 0x0600_0013)));
-    assert!(rt; accesses.bus.space().byte(0x2000_0000) == Some(0));
+    assert!(rt; accesses.bus.memory().byte(0x2000_0000) == Some(0));
     Ok(())
 }

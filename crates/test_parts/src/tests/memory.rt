@@ -1,21 +1,21 @@
 //! Flash, RAM and the device window.
 
 use super::words::{is_number, request};
+use physical_memory::{Performed, PhysicalMemory, Request, Rule};
 use platform::access::DoneAccess;
 use platform::board::SMALL_BOARD;
-use space::{Performed, Request, Rule, Space};
 use std::alloc::Global;
 use std::test::*;
 use test_tables::{Rows, byte_at, check, is_first, number_at, part, word};
 
 /// The memory of the small board before anything is loaded.
-pub(super) fn blank(alloc: Global) -> Option<Space> {
-    Space::blank(alloc, &SMALL_BOARD).ok()
+pub(super) fn blank(alloc: Global) -> Option<PhysicalMemory> {
+    PhysicalMemory::blank(alloc, &SMALL_BOARD).ok()
 }
 
 /// The outcome of an access that a rule granted, after 0x1_0000_0005 ticks, if it is carried out.
-fn done(space: &mut Space, request: &Request) -> Option<DoneAccess> {
-    match space.access(Rule::MpuOff, request, 0x1_0000_0005) {
+fn done(memory: &mut PhysicalMemory, request: &Request) -> Option<DoneAccess> {
+    match memory.access(Rule::MpuOff, request, 0x1_0000_0005) {
         Performed::Done(done) => Some(done),
         Performed::Denied(_, _) | Performed::Stop(_) => None,
     }
@@ -24,13 +24,13 @@ fn done(space: &mut Space, request: &Request) -> Option<DoneAccess> {
 /// The memory that the accesses of rows go to.
 #[derive(Drop)]
 struct Accesses {
-    space: Space,
+    memory: PhysicalMemory,
 }
 
 impl Rows for Accesses {
     /// Returns whether the next access is answered as its row says.
     fn holds(&mut self, row: &str) -> Option<bool> {
-        let done = done(&mut self.space, &request(part(row, 0))?);
+        let done = done(&mut self.memory, &request(part(row, 0))?);
         Some(is_number(done.map(|done| done.value), part(row, 1)))
     }
 }
@@ -54,14 +54,14 @@ F halfword 40000004 00000000 p | none | a fetch from TICK";
 
 #[test]
 fn accesses_one_after_another(rt: HostRuntime) -> Result<(), Fail> {
-    let space = blank(rt.alloc()).ok_or("memory")?;
-    check(ACCESSES, &mut Accesses { space })
+    let memory = blank(rt.alloc()).ok_or("memory")?;
+    check(ACCESSES, &mut Accesses { memory })
 }
 
 /// The memory in which the bytes of rows lie or don't.
 #[derive(Drop)]
 struct Places {
-    space: Space,
+    memory: PhysicalMemory,
 }
 
 impl Rows for Places {
@@ -69,7 +69,7 @@ impl Rows for Places {
         let place = part(row, 0);
         let address = number_at(place, 1)?;
         let length = usize::from(byte_at(place, 2)?);
-        let is_there = self.space.is_in_memory(address, length);
+        let is_there = self.memory.is_in_memory(address, length);
         Some(is_first(part(row, 1), "in", "out") == Some(is_there))
     }
 }
@@ -83,14 +83,14 @@ ram 20001FFF 2 | out | half after RAM";
 
 #[test]
 fn places_in_flash_and_ram(rt: HostRuntime) -> Result<(), Fail> {
-    let space = blank(rt.alloc()).ok_or("memory")?;
-    check(PLACES, &mut Places { space })
+    let memory = blank(rt.alloc()).ok_or("memory")?;
+    check(PLACES, &mut Places { memory })
 }
 
 /// The memory into which a debugger put bytes.
 #[derive(Drop)]
 struct Bytes {
-    space: Space,
+    memory: PhysicalMemory,
 }
 
 impl Rows for Bytes {
@@ -98,10 +98,10 @@ impl Rows for Bytes {
         let place = number_at(part(row, 0), 1)?;
         let wanted = part(row, 1);
         if is_first(word(part(row, 0), 0), "byte", "vector")? {
-            let byte = self.space.byte(place);
+            let byte = self.memory.byte(place);
             return Some(byte == byte_at(wanted, 0) && byte.is_none() == (wanted == "none"));
         }
-        Some(place < 256 && number_at(wanted, 0) == Some(self.space.vector(0, place)))
+        Some(place < 256 && number_at(wanted, 0) == Some(self.memory.vector(0, place)))
     }
 }
 
@@ -115,21 +115,21 @@ byte 00001000 | none | after flash";
 
 #[test]
 fn bytes_that_a_debugger_puts(rt: HostRuntime) -> Result<(), Fail> {
-    let mut space = blank(rt.alloc()).ok_or("memory")?;
-    assert!(rt; space.is_in_memory(4, 4));
-    space.overwrite(4, &[1, 2, 3, 4]);
-    check(BYTES, &mut Bytes { space })
+    let mut memory = blank(rt.alloc()).ok_or("memory")?;
+    assert!(rt; memory.is_in_memory(4, 4));
+    memory.overwrite(4, &[1, 2, 3, 4]);
+    check(BYTES, &mut Bytes { memory })
 }
 
 /// The memory beside the window, to which accesses go.
 #[derive(Drop)]
 struct Console {
-    space: Space,
+    memory: PhysicalMemory,
 }
 
 impl Rows for Console {
     fn holds(&mut self, row: &str) -> Option<bool> {
-        let done = done(&mut self.space, &request(part(row, 0))?);
+        let done = done(&mut self.memory, &request(part(row, 0))?);
         let sent = match done {
             Some(done) => done.sent,
             None => None,
@@ -148,6 +148,6 @@ S word 20000000 00000078 p | none | a word to RAM";
 
 #[test]
 fn bytes_for_the_console(rt: HostRuntime) -> Result<(), Fail> {
-    let space = blank(rt.alloc()).ok_or("memory")?;
-    check(CONSOLE, &mut Console { space })
+    let memory = blank(rt.alloc()).ok_or("memory")?;
+    check(CONSOLE, &mut Console { memory })
 }

@@ -6,5 +6,5 @@ use Rattle.machine.proofs.start.load_segments.Given as goal
 -- those from the index on are still to be loaded
 abbrev pub invariant-segments : goal.invariant-segments
 invariant-segments l =
-    image_loaded l.space (map segment_of (drop l.segment-index l.segments))
-    ≡ image_loaded l.fn.space (map segment_of l.segments)
+    image_loaded l.memory (map segment_of (drop l.segment-index l.segments))
+    ≡ image_loaded l.fn.memory (map segment_of l.segments)

@@ -1,4 +1,4 @@
--- The blocks of a `Space`: flash, RAM, and the second RAM where the board has one.
+-- The blocks of a `PhysicalMemory`: flash, RAM, and the second RAM where the board has one.
 use Rattle.std.specs.Prelude.{◌≡◌, ℕ, ◌+◌, ◌≤◌, Bool, false, true, List, [], ◌∷◌, length, Option, Some, None}
 use Rattle.platform.specs.Map.{are_apart, is_for_memory, ram_base}
 use Rattle.platform.specs.Memory.{Block, Memory, holds}

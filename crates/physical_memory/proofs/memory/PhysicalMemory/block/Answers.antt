@@ -1,6 +1,6 @@
 use Rattle.std.proofs.Common.{sym}
-use Rattle.space.proofs.Places.{third_is}
-use Rattle.space.proofs.memory.Space.block.Goals as goal
+use Rattle.physical_memory.proofs.Places.{third_is}
+use Rattle.physical_memory.proofs.memory.PhysicalMemory.block.Goals as goal
 
 pub returns-in-Some-clause-value : goal.returns-in-Some-clause-value
 returns-in-Some-clause-value c =

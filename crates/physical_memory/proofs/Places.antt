@@ -5,7 +5,7 @@ use Rattle.std.proofs.lemmas.Bool.Decides.{nat_tests}
 use Rattle.platform.specs.Map.{are_apart, is_for_memory, is_in_window, ram_base}
 use Rattle.platform.specs.Memory.{Block, Memory, block_at, holds, is_in_memory, is_writable_at, number_at}
 use Rattle.platform.specs.SystemInvariant.{IsApartFrom, IsLaidOut}
-use Rattle.space.specs.Spaces.{AreInPlace, flash_block, memory_of, ram_block}
+use Rattle.physical_memory.specs.MemoryBlocks.{AreInPlace, flash_block, memory_of, ram_block}
 
 -- memory ends at 0xA0000000 or below
 pub ends_low : (base size : ℕ) → is_for_memory base size ≡ true → base + size ≤ 0xA000_0000
@@ -47,7 +47,7 @@ not_in_window m a n v laid some read =
     let place = in_place m a n laid (is_there m a n v read) some in
     grind (arith, nat_tests, place, some)
 
--- ---- the blocks of a `Space`
+-- ---- the blocks of a `PhysicalMemory`
 
 apart_by : (b c : Block) (x : ℕ) → are_apart b.base (length b.bytes) c.base (length c.bytes) ≡ true →
     holds b x 1 ≡ true → holds c x 1 ≡ false

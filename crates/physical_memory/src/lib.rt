@@ -5,6 +5,6 @@ mod memory;
 mod second_ram;
 
 pub use instruction_set::size::Size;
-pub use memory::{LentBlock, Space, is_within};
+pub use memory::{LentBlock, PhysicalMemory, is_within};
 pub use platform::access::{Kind, Performed, Request, Rule};
 pub use platform::board::Layout;

@@ -10,8 +10,8 @@ ghost use Rattle.platform.specs.Memory.{overwritten, vector, with_bytes};
 ghost use Rattle.platform.specs.Outcomes.{IsOf, LeavesUnlessDone};
 ghost use Rattle.platform.specs.Space.{memory_access, read_from, written_to, written_to_window, is_out, is_tick_read};
 ghost use Rattle.platform.specs.SystemInvariant.{IsLaidOut};
-ghost use Rattle.space.specs.Sizes.{HaveSameSizes};
-ghost use Rattle.space.specs.Spaces.{is_in_flash, is_in_ram};
+ghost use Rattle.physical_memory.specs.Sizes.{HaveSameSizes};
+ghost use Rattle.physical_memory.specs.MemoryBlocks.{is_in_flash, is_in_ram};
 
 use crate::second_ram::SecondBytes;
 use instruction_set::size::Size;
@@ -32,7 +32,7 @@ const ERASED: u8 = 0xFF;
 
 /// Flash, RAM, and the second RAM where the board has one.
 #[derive(Drop)]
-pub struct Space {
+pub struct PhysicalMemory {
     flash_base: u32,
     flash: Vec<u8>,
     ram: Vec<u8>,
@@ -47,9 +47,9 @@ pub struct LentBlock<'a> {
     pub is_writable: bool,
 }
 
-impl Model for Space {
+impl Model for PhysicalMemory {
     ghost use Rattle.platform.specs.Memory.{Memory};
-    ghost use Rattle.space.specs.Spaces.{AreInPlace, memory_of};
+    ghost use Rattle.physical_memory.specs.MemoryBlocks.{AreInPlace, memory_of};
 
     ghost Value = { Memory };
 
@@ -58,7 +58,7 @@ impl Model for Space {
     ghost invariant = { λ s. AreInPlace s.flash_base s.flash.items s.ram.items s.second };
 }
 
-impl Space {
+impl PhysicalMemory {
     /// Returns the memory of a board before anything is loaded: flash is 0xFF and RAM is 0.
     pub fn blank(alloc: Global, board: &Layout) -> Result<Self, AllocError>
         ensures { IfOk result (λ s. s ≡ blank (numbers_of board.now)) }
@@ -69,7 +69,7 @@ impl Space {
             Some(second) => Some(SecondBytes::blank(alloc, second)?),
             None => None,
         };
-        Ok(Space {
+        Ok(PhysicalMemory {
             flash_base: board.flash_base,
             flash,
             ram,
@@ -87,7 +87,7 @@ impl Space {
             Some(second) => Some(second.copied(alloc)?),
             None => None,
         };
-        Ok(Space {
+        Ok(PhysicalMemory {
             flash_base: self.flash_base,
             flash,
             ram,
@@ -96,7 +96,7 @@ impl Space {
     }
 
     /// Takes the bytes of a memory of the same board.
-    pub fn copy_from(&mut self, other: &Space)
+    pub fn copy_from(&mut self, other: &PhysicalMemory)
         requires { HaveSameSizes self.old other.now }
         ensures { self.new ≡ other.now }
     {

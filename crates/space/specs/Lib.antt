@@ -1,3 +1,0 @@
--- The definitions are those of `platform`. Here is when two memories have the same sizes, and the blocks of a `Space`.
-pub mod Sizes
-pub mod Spaces
