@@ -2,4 +2,3 @@ pub mod Boundaries
 pub mod Intervals
 pub mod Tables
 pub mod Windows
-pub mod Fetches

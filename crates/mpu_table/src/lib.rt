@@ -3,7 +3,6 @@
 #![tactic(auto)]
 
 mod boundaries;
-mod fetches;
 mod interval;
 mod kept_decisions;
 mod places;
