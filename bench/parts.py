@@ -80,8 +80,7 @@ mixes["crc32-loop"] = fetched_pairs(accesses, flash)
 runs = {}
 for at, (name, pairs) in enumerate(mixes.items()):
     path = written(FOLDER, f"mix{at}", packed_pairs(pairs))
-    for part in ("decode", "memo"):
-        runs[name, part] = [RATE, part, path, str(times_of(pairs))]
+    runs[name, "decode"] = [RATE, "decode", path, str(times_of(pairs))]
 for name, (halfwords, _) in LOOPS.items():
     runs[name, "marm"] = traced(MARM, SMALL, STEPS, written(FOLDER, name + ".elf", image(halfwords)))
 path = written(FOLDER, "accesses", packed_accesses(accesses))
@@ -97,12 +96,12 @@ figures = {}
 print(f"{COUNT} decodes or decisions, {STEPS} steps, the best of {ROUNDS} shuffled rounds")
 for name, pairs in mixes.items():
     count = times_of(pairs) * len(pairs)
-    decode, memo = best[name, "decode"] / count, best[name, "memo"] / count
+    decode = best[name, "decode"] / count
     figures[f"decode, {name}, ns"] = f"{decode * 1e9:.1f}"
-    line = f"{name:<32} {1e-6 / decode:6.1f} M decodes/s   {decode * 1e9:5.1f} ns each, {memo * 1e9:5.1f} where meanings are kept"
+    line = f"{name:<32} {1e-6 / decode:6.1f} M decodes/s   {decode * 1e9:5.1f} ns each"
     if (name, "marm") in best:
         step = best[name, "marm"] / STEPS
-        line += f"   {step * 1e9:5.1f} ns a step, of which decoding {memo / step:.0%}"
+        line += f"   {step * 1e9:5.1f} ns a step"
     print(line)
 each_step = len(accesses) / len(mixes["crc32-loop"])
 for text, run in (("the MPU off", "marm"), ("eight regions", "regions")):
