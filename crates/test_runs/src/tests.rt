@@ -21,6 +21,7 @@ mod named_stops;
 mod options;
 mod pairs;
 mod places;
+mod quiet_runs;
 mod reports;
 mod returns;
 mod run;
