@@ -1,12 +1,16 @@
 -- The machine stays after the last mark: it makes steps, and each write leaves a mark.
-use Rattle.std.proofs.Common.{◌≡◌, Bool, true, false, List, ℕ, ◌∷◌, Option, Some, None, Result, Ok, Err, OnOk, refl, subst, sym}
+use Rattle.std.proofs.Common.{◌≡◌, Bool, true, false, List, ℕ, Option, Some, None, Result, Ok, Err, OnOk, refl, subst, sym}
 use Rattle.std.proofs.Common.{ap, ◌∙◌}
 use Rattle.debugger_commands.specs.declared.commands.LineError.{LineError}
 use Rattle.gdb.specs.declared.returns.Return.{Return}
 use Rattle.gdb.specs.declared.returns.Return.TheVariants as returning
+use Rattle.gdb.specs.declared.returns.Search.{Search}
+use Rattle.gdb.specs.declared.turns.Run.{Run}
 use Rattle.gdb.specs.declared.turns.Turn.{Turn}
 use Rattle.gdb.specs.declared.turns.Turn.TheVariants as turning
+use Rattle.gdb.specs.Returns.{Returned, return}
 use Rattle.gdb.specs.Targets.{altered_if}
+use Rattle.gdb.specs.Turns.{Turned, turn}
 use Rattle.gdb_past.proofs.Following.{after_none, same_trans}
 use Rattle.gdb_past.proofs.Ways.{at_first}
 use Rattle.gdb_past.specs.Places.{AreOfOneMachine, Past, marked, past_from}
@@ -14,7 +18,7 @@ use Rattle.gdb_past.specs.Ways.{IsAfterMark}
 use Rattle.gdb_server.proofs.Refusals.{Unless, placed_unless, written_unless}
 use Rattle.gdb_server.proofs.Sizes.{put_stays, written_stays}
 use Rattle.gdb_server.specs.Commands.{placed_by}
-use Rattle.gdb_server.specs.Conduct.{commanded, past_after, past_by, with_return, with_turn}
+use Rattle.gdb_server.specs.Conduct.{commanded, past_after, past_by, resumed, searched, with_return, with_turn}
 use Rattle.gdb_server.specs.declared.purposes.MachineChange.{MachineChange}
 use Rattle.gdb_server.specs.Sessions.{Session}
 use Rattle.gdb_server.specs.Writes.{after_place, writes, written}
@@ -39,13 +43,24 @@ now_ahead k new past s kept stands h =
     subst (λ (p : Past). IsAfterMark p new.state) (sym kept) (subst (λ (t : State). IsAfterMark past t) (sym stands) h)
 
 -- a turn leaves the past as it was then
-pub turn_past : (k : Session) (t : Turn) → (with_turn k t).past ≡ k.past
+turn_past : (k : Session) (t : Turn) → (with_turn k t).past ≡ k.past
 turn_past k (turning.Asks run) = refl
 turn_past k (turning.Ends signal) = refl
 
-pub return_past : (k : Session) (r : Return) → (with_return k r).past ≡ k.past
+return_past : (k : Session) (r : Return) → (with_return k r).past ≡ k.past
 return_past k (returning.Asks search) = refl
 return_past k (returning.Ends signal) = refl
+
+pub resumed_past : (k : Session) (s : State) (run : Run) → (resumed k s run).session.past ≡ k.past
+resumed_past k s run =
+    let t : Turned = turn k.points k.settings k.features k.limit run s in
+    turn_past (record k { sent = t.sent }) t.outcome
+
+pub searched_past : (k : Session) (s : State) (search : Search) → (searched k s search).session.past
+    ≡ (return k.settings k.points k.features k.past search s).past
+searched_past k s search =
+    let r : Returned = return k.settings k.points k.features k.past search s in
+    return_past (record k { sent = r.sent; past = r.past }) r.outcome
 
 -- the machine is at a new mark
 at_mark : (past : Past) (s : State) → AreOfOneMachine past.start s → IsAfterMark (marked past s) s

@@ -1,17 +1,18 @@
 -- A write that is refused, or that writes nothing, changes nothing. Of the registers that G writes one after another
 -- the first one alone is refused: it asks for what the others ask for, and no register changes that.
-use Rattle.std.proofs.Common.{◌≡◌, ◌==◌, ◌<◌, ◌+◌, ◌-◌, ◌%◌, ℕ, zero, suc, Bool, true, false, not, ◌||◌, ◌&&◌, if◌then◌else◌}
-use Rattle.std.proofs.Common.{List, [], ◌∷◌, Option, Some, None, Result, Ok, Err, is_some, length, nat_lt, refl, sym, ◌∙◌, ap, arith}
+use Rattle.std.proofs.Common.{◌≡◌, ◌==◌, ◌<◌, ◌+◌, ◌%◌, ℕ, zero, suc, Bool, true, false, not, ◌||◌, ◌&&◌}
+use Rattle.std.proofs.Common.{List, [], ◌∷◌, Option, Some, None, Result, Ok, Err, is_some, length, nat_lt, refl, ap, arith}
 use Rattle.std.specs.Prelude.{⊤}
 use Rattle.std.proofs.lemmas.Bool.{cond_both}
 use Rattle.std.proofs.lemmas.Bool.Decides.{nat_tests}
-use Rattle.gdb.specs.Targets.{altered_if, place_of, register_written}
+use Rattle.gdb.specs.Targets.{altered_if, register_written}
 use Rattle.gdb_server.specs.Replies.{bytes_in}
 use Rattle.gdb_server.specs.declared.purposes.MachineChange.{MachineChange}
 use Rattle.gdb_server.specs.declared.purposes.MachineChange.TheVariants as change
 use Rattle.gdb_server.specs.Writes.{Written, after_place, are_there, block_written, done, later_unless, memory_written}
-use Rattle.gdb_server.specs.Writes.{is_of_device, one_register, refused, register_after, registers_from}
+use Rattle.gdb_server.specs.Writes.{is_of_device, refused, register_after, registers_from}
 use Rattle.gdb_server.specs.Writes.{registers_written, with_bytes, word_of, word_written, writes, written}
+use Rattle.gdb_texts.specs.Bytes.{first_bytes}
 use Rattle.gdb_texts.specs.Registers.{word_at, written_register}
 use Rattle.instruction_set.specs.declared.system.SpecialRegister.{SpecialRegister}
 use Rattle.instruction_set.specs.declared.system.SpecialRegister.TheVariants as special
@@ -23,8 +24,8 @@ use Rattle.platform.specs.declared.error.PlaceError.{PlaceError}
 use Rattle.platform.specs.declared.error.PlaceError.TheVariants.{NotAligned, NoSuchPlace, Stopped}
 use Rattle.reference.specs.declared.place.Place.{Place}
 use Rattle.reference.specs.declared.place.Place.TheVariants.{Reg, Special, Word}
-use Rattle.reference.specs.Places.{altered, with_special_placed}
-use Rattle.reference.specs.State.{State, with_registers}
+use Rattle.reference.specs.Places.{altered}
+use Rattle.reference.specs.State.{State}
 
 -- the state t after a write to s, refused or not, of something or nothing
 abbrev pub Unless : Bool → Option PlaceError → State → State → Type 0
@@ -191,12 +192,15 @@ is_empty : (tail : List ℕ) → not (length tail == 0) ≡ false → tail ≡ [
 is_empty [] e = refl
 is_empty (x ∷ xs) e = absurd (let some : not (suc (length xs) == 0) ≡ false = e in grind (arith, nat_tests))
 
+no_bytes : (tail : List ℕ) → tail ≡ [] → length (bytes_in tail) ≡ 0
+unfolding first_bytes
+no_bytes tail e = ap (λ (t : List ℕ). length (bytes_in t)) e
+
 pub written_unless : (s : State) (c : MachineChange) (tail : List ℕ)
     → Unless (writes c tail) (written s c tail).refused s (written s c tail).state
 written_unless s (change.Register n) tail = placed_unless s (register_written s n (word_at tail 0))
 written_unless s change.Registers tail = registers_by s tail (IsBusy s) refl
 written_unless s (change.Digits a) tail =
-    bytes_unless s a (bytes_in tail) (not (length tail == 0))
-    (λ e. ap (λ (t : List ℕ). length (bytes_in t)) (is_empty tail e))
+    bytes_unless s a (bytes_in tail) (not (length tail == 0)) (λ e. no_bytes tail (is_empty tail e))
 written_unless s (change.Bytes a) tail =
     bytes_unless s a tail (not (length tail == 0)) (λ e. ap length (is_empty tail e))

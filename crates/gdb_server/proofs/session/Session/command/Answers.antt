@@ -26,5 +26,5 @@ returns-clause-ahead g c =
     asked c.read_command-asked.ensures kept
     (ap (λ (m : MachineModel). m.state) c.place_by-refused.ensures.writes.0) c.requires
 
-pub place_by-requires : goal.place_by-requires
-place_by-requires g c = c.requires.fits
+pub place_by-refused-requires : goal.place_by-refused-requires
+place_by-refused-requires g c = c.requires.fits

@@ -1,7 +1,9 @@
-use Rattle.std.proofs.Common.{◌∙◌, ap, refl}
+use Rattle.std.proofs.Common.{◌≡◌, ◌∙◌, ap, refl, sym}
 use Rattle.gdb_past.proofs.Following.{same_sym, same_trans}
-use Rattle.gdb_server.proofs.Ahead.{now_ahead, turn_past}
+use Rattle.gdb_server.proofs.Ahead.{now_ahead, resumed_past}
+use Rattle.gdb_server.specs.Conduct.{resumed}
 use Rattle.gdb_server.specs.Sessions.{Session}
+use Rattle.reference.specs.State.{State}
 use Rattle.gdb_server.proofs.session.Session.resume.Goals as goal
 
 pub returns-in-Ok-clause-delivers : goal.returns-in-Ok-clause-delivers
@@ -42,5 +44,9 @@ run_turn-requires-clause-ahead g c = rw (← c.self.view_is) at c.requires
 
 pub returns-in-Ok-clause-ahead : goal.returns-in-Ok-clause-ahead
 returns-in-Ok-clause-ahead g c =
+    let k : Session = c.args.self.now in
+    let s : State = c.args.machine.now.state in
+    let kept : c.keep_turn.new.self ≡ (resumed k s c.args.run).session = returns-in-Ok-clause-kept g c in
+    let same : c.run_turn.new.past ≡ k.past = c.in-Ok.ensures.past ∙ ap (λ (q : Session). q.past) c.self.view_is in
     now_ahead c.keep_turn.new.self c.run_turn.new.machine c.run_turn.new.past c.run_turn.new.machine.state
-    (ap (λ (k : Session). k.past) c.keep_turn.ensures ∙ turn_past _ c.in-Ok.turn) refl c.in-Ok.ensures.ahead
+    (ap (λ (q : Session). q.past) kept ∙ (resumed_past k s c.args.run ∙ sym same)) refl c.in-Ok.ensures.ahead

@@ -1,7 +1,10 @@
-use Rattle.std.proofs.Common.{◌∙◌, ap, refl}
+use Rattle.std.proofs.Common.{◌≡◌, ◌∙◌, ap, refl, sym}
+use Rattle.gdb.specs.Returns.{return}
 use Rattle.gdb_past.proofs.Following.{same_sym, same_trans}
-use Rattle.gdb_server.proofs.Ahead.{now_ahead, return_past}
+use Rattle.gdb_server.proofs.Ahead.{now_ahead, searched_past}
+use Rattle.gdb_server.specs.Conduct.{searched}
 use Rattle.gdb_server.specs.Sessions.{Session}
+use Rattle.reference.specs.State.{State}
 use Rattle.gdb_server.proofs.session.Session.search.Goals as goal
 
 pub returns-in-Ok-clause-delivers : goal.returns-in-Ok-clause-delivers
@@ -42,5 +45,10 @@ invariant_of-self-in-Err g c =
 
 pub returns-in-Ok-clause-ahead : goal.returns-in-Ok-clause-ahead
 returns-in-Ok-clause-ahead g c =
+    let k : Session = c.args.self.now in
+    let s : State = c.args.machine.now.state in
+    let kept : c.keep_return.new.self ≡ (searched k s c.args.search).session = returns-in-Ok-clause-kept g c in
+    let same : c.go_back.new.past ≡ (return k.settings k.points k.features k.past c.args.search s).past =
+    rw (← c.self.view_is) c.in-Ok.ensures.returns.kept in
     now_ahead c.keep_return.new.self c.go_back.new.machine c.go_back.new.past c.go_back.new.machine.state
-    (ap (λ (k : Session). k.past) c.keep_return.ensures ∙ return_past _ c.in-Ok.end) refl c.in-Ok.ensures.ahead
+    (ap (λ (q : Session). q.past) kept ∙ (searched_past k s c.args.search ∙ sym same)) refl c.in-Ok.ensures.ahead
