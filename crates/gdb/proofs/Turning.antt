@@ -1,14 +1,14 @@
 -- The turns of a run: what a slice leaves, and slice after slice.
-use Rattle.std.proofs.Common.{◌≡◌, ℕ, zero, suc, ◌+◌, ◌≤◌, Bool, true, false, List, [], ◌∷◌, ◌++◌}
-use Rattle.std.proofs.Common.{Option, Some, None, Result, Ok, Err, IfOk, refl, sym, ◌∙◌, ap, subst, arith, append_assoc}
+use Rattle.std.proofs.Common.{◌≡◌, ℕ, suc, ◌+◌, Bool, true, false, List, [], ◌∷◌, ◌++◌}
+use Rattle.std.proofs.Common.{Option, Some, None, Result, Ok, Err, IfOk, refl, sym, ◌∙◌, ap, subst, append_assoc}
 use Rattle.std.proofs.Common.{if◌then◌else◌, unwrap_or}
 use Rattle.std.proofs.lemmas.List.{append-nil}
 use Rattle.gdb.proofs.Slicing.{flow_left, slice_leaves, stands_there}
 use Rattle.gdb.specs.declared.slices.Plan.{Plan}
 use Rattle.gdb.specs.declared.slices.Points.{Points}
 use Rattle.gdb.specs.declared.turns.Turn.{Turn}
-use Rattle.gdb.specs.Slices.{Flow, Progress, Sliced, Slices, after_pieces, after_step, at_rest, before_step, flow}
-use Rattle.gdb.specs.Slices.{reason_then, slice, step_piece, unless_ended}
+use Rattle.gdb.specs.Slices.{Flow, Progress, Sliced, Slices, flow}
+use Rattle.gdb.specs.Slices.{slice}
 use Rattle.gdb.specs.Turns.{MakesTurn, TakesTurn, Turned, after_slice, asked, asked_or, ended, ended_or, flushed}
 use Rattle.gdb.specs.Turns.{flushing}
 use Rattle.gdb.specs.Turns.{last_slice, poll_packet, said, slices, max_slice_steps, stop_packet, whys, with_pieces}
@@ -24,9 +24,8 @@ use Rattle.machine.specs.MachineModel.{MachineModel}
 use Rattle.output.specs.Output.{IsCutShort, Writing, WritesAll}
 use Rattle.platform.specs.declared.event.Event.{Event}
 use Rattle.reference.specs.State.{State}
-use Rattle.reference.specs.Step.{step}
 use Rattle.serving.proofs.Delivering.{cut_before, cut_on, one_cut, delivers_none, delivers_on}
-use Rattle.serving.specs.Pieces.{Piece, Delivers, DeliversAll, DeliversPart, last_state}
+use Rattle.serving.specs.Pieces.{Piece, Delivers, DeliversAll, DeliversPart}
 
 -- ---- what a slice leaves
 

@@ -11,7 +11,7 @@ use Rattle.gdb.specs.Consoles.{console_from}
 use Rattle.gdb.specs.Searches.{Place, place_back}
 use Rattle.gdb.specs.Slices.{Flow}
 use Rattle.gdb.specs.Turns.{ended, poll_packet, said, max_slice_steps, stop_packet}
-use Rattle.gdb_past.specs.Places.{Past, tick_of}
+use Rattle.gdb_past.specs.Places.{Past}
 use Rattle.gdb_texts.specs.declared.features.Features.{Features}
 use Rattle.gdb_texts.specs.declared.settings.Settings.{Settings}
 use Rattle.gdb_texts.specs.declared.stops.StopReason.{StopReason}

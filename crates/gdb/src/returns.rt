@@ -8,6 +8,7 @@ ghost use Rattle.gdb.specs.Returns.{Returns, first_search, flow_at, low_of, retu
 ghost use Rattle.gdb.specs.Searches.{events_for, is_of_step};
 ghost use Rattle.gdb.specs.Turns.{ended, poll_packet, said, stop_packet};
 ghost use Rattle.gdb_past.specs.Places.{AreOfOneMachine};
+ghost use Rattle.gdb_past.specs.Ways.{IsAfterMark};
 ghost use Rattle.gdb_texts.specs.Stops.{signal_of};
 ghost use Rattle.reference.specs.Run.{after};
 ghost use Rattle.reference.specs.State.{State};
@@ -128,6 +129,7 @@ fn arrive<D: Decider, C: KeptCode, L: Exceptions, U: SysTickState>(
       state = after target.found.steps (slice_index_or past.old.marks target.number s);
     } }
     ensures same { AreOfOneMachine past.old.start machine.new.state }
+    ensures ahead { IsAfterMark past.new machine.new.state }
 {
     past.forget(target.number);
     reach(target.found, past, progress, machine);
@@ -223,7 +225,7 @@ pub fn go_back<D: Decider, C: KeptCode, L: Exceptions, U: SysTickState, W: Out>(
     machine: &mut Machine<D, C, L, U>,
     out: &mut W,
 ) -> Result<Return, IoError>
-    requires past { AreOfOneMachine past.old.start machine.old.state }
+    requires ahead { IsAfterMark past.old machine.old.state }
     requires fits { AreOfOneMachine position.old machine.old.state }
     ensures returns { Returns (return context.now.settings context.now.points.now context.now.features past.old search
         machine.old.state) machine.old machine.new (W.writing out.old) (W.writing out.new) sent.new.items past.new
@@ -231,6 +233,7 @@ pub fn go_back<D: Decider, C: KeptCode, L: Exceptions, U: SysTickState, W: Out>(
     ensures start { past.new.start ≡ past.old.start }
     ensures fits { AreOfOneMachine position.new machine.new.state }
     ensures same { AreOfOneMachine machine.old.state machine.new.state }
+    ensures ahead { IsAfterMark past.new machine.new.state }
 {
     let mut progress = Progress::new(0, None, None);
     if search.is_interrupted {

@@ -6,6 +6,7 @@ ghost use Rattle.gdb.specs.Slices.{Slices, flow, hit_next, one_step, returns_the
 ghost use Rattle.gdb.specs.Watching.{IsReady, state_unless};
 ghost use Rattle.gdb.specs.Whys.{why_text};
 ghost use Rattle.gdb_past.specs.Places.{AreOfOneMachine};
+ghost use Rattle.gdb_past.specs.Ways.{IsAfterMark, StaysAfterMark};
 ghost use Rattle.output.specs.Output.{Put};
 ghost use Rattle.reference.specs.Step.{step};
 ghost use Rattle.serving.specs.Pieces.{Delivers};
@@ -14,7 +15,7 @@ use crate::console::Console;
 use crate::over::{ReturnPoint, remembered_after};
 use crate::steps::{first_hit, is_continue, put_step, reason_after, reason_before, selection_of};
 use crate::whys::put_whys;
-use gdb_past::Position;
+use gdb_past::{Past, Position};
 use gdb_texts::{Breakpoints, Resume, Settings, StopReason, Watchpoints};
 use machine::{Decider, Events, Exceptions, KeptCode, Machine, SysTickState, is_instruction};
 use output::{IoError, Out};
@@ -190,6 +191,7 @@ fn step_unless_hit<D: Decider, C: KeptCode, L: Exceptions, U: SysTickState>(
     ensures ready { IsReady points.now.watchpoints position.new machine.new.state }
     ensures fits { AreOfOneMachine position.new machine.new.state }
     ensures same { AreOfOneMachine machine.old.state machine.new.state }
+    ensures ahead { StaysAfterMark machine.old.state machine.new.state }
 {
     let _ = machine.step(events);
     if points.watchpoints.is_empty() {
@@ -227,6 +229,7 @@ fn make_step<D: Decider, C: KeptCode, L: Exceptions, U: SysTickState, W: Out>(
     ensures ready { IsReady points.now.watchpoints position.new machine.new.state }
     ensures fits { AreOfOneMachine position.new machine.new.state }
     ensures same { AreOfOneMachine machine.old.state machine.new.state }
+    ensures ahead { StaysAfterMark machine.old.state machine.new.state }
 {
     let counts = !is_continue(plan.how) && is_instruction(machine.next_kind());
     let returns_to = returns_then(plan, progress, machine);
@@ -259,12 +262,13 @@ fn make_step<D: Decider, C: KeptCode, L: Exceptions, U: SysTickState, W: Out>(
     ))
 }
 
-/// Makes at most `steps` steps of a run that ends at these points. Returns why it ended, if it did. `position` is room
-/// for a state to go back to.
+/// Makes at most `steps` steps of a run that ends at these points. Returns why it ended, if it did. `past` keeps
+/// checkpoints on the way, and `position` is room for a state to go back to.
 pub fn run_slice<D: Decider, C: KeptCode, L: Exceptions, U: SysTickState, W: Out>(
     plan: &Plan,
     points: &Points,
     steps: u64,
+    past: &mut Past<L, U>,
     position: &mut Position<L, U>,
     progress: &mut Progress,
     machine: &mut Machine<D, C, L, U>,
@@ -272,6 +276,7 @@ pub fn run_slice<D: Decider, C: KeptCode, L: Exceptions, U: SysTickState, W: Out
 ) -> Result<Option<StopReason>, IoError>
     requires room { progress.old.made + steps < 2 ^ 64 }
     requires fits { AreOfOneMachine position.old machine.old.state }
+    requires ahead { IsAfterMark past.old machine.old.state }
     ensures delivers { Delivers (slice plan.now points.now steps (flow progress.old machine.old.state)).pieces
         machine.old
         machine.new (W.writing out.old) (W.writing out.new) result }
@@ -279,6 +284,8 @@ pub fn run_slice<D: Decider, C: KeptCode, L: Exceptions, U: SysTickState, W: Out
         Slices (slice plan.now points.now steps (flow progress.old machine.old.state)) progress.new reason) }
     ensures fits { AreOfOneMachine position.new machine.new.state }
     ensures same { AreOfOneMachine machine.old.state machine.new.state }
+    ensures past { past.new ≡ past.old }
+    ensures ahead { IsAfterMark past.new machine.new.state }
 {
     prepare(&points.watchpoints, position, machine);
     let mut left = steps;
@@ -300,6 +307,7 @@ pub fn run_slice<D: Decider, C: KeptCode, L: Exceptions, U: SysTickState, W: Out
             Ok(None) => {}
             Err(error) => return Err(error),
         }
+        past.follow(machine);
         left -= 1;
     }
     progress.forget();

@@ -5,6 +5,7 @@ ghost use Rattle.gdb.specs.Slices.{flow, slice};
 ghost use Rattle.gdb.specs.Turns.{MakesTurn, all_slices, asked, ended, last_slice, steps_left, stop_packet, turn};
 ghost use Rattle.gdb_packets.specs.Replies.{packet_of};
 ghost use Rattle.gdb_past.specs.Places.{AreOfOneMachine};
+ghost use Rattle.gdb_past.specs.Ways.{IsAfterMark};
 ghost use Rattle.output.specs.Output.{Put};
 ghost use Rattle.reference.specs.State.{State};
 ghost use Rattle.serving.specs.Pieces.{Delivers};
@@ -15,7 +16,7 @@ use crate::slices::{Plan, Points, Progress, run_slice};
 use crate::whys::stop_with_line;
 use arrayvec::ArrayVec;
 use gdb_packets::put_packet;
-use gdb_past::Position;
+use gdb_past::{Past, Position};
 use gdb_texts::{
     Features, Resume, Settings, Signal, StopReason, Watchpoints, max_steps, put_stop_reply,
     signal_of,
@@ -155,6 +156,7 @@ fn last_slice<D: Decider, C: KeptCode, L: Exceptions, U: SysTickState, W: Out>(
     plan: &Plan,
     context: &RunContext,
     steps: u64,
+    past: &mut Past<L, U>,
     position: &mut Position<L, U>,
     progress: &mut Progress,
     sent: &mut SentPacket,
@@ -163,16 +165,20 @@ fn last_slice<D: Decider, C: KeptCode, L: Exceptions, U: SysTickState, W: Out>(
 ) -> Result<Turn, IoError>
     requires room { progress.old.made + steps < 2 ^ 64 }
     requires fits { AreOfOneMachine position.old machine.old.state }
+    requires ahead { IsAfterMark past.old machine.old.state }
     ensures takes { MakesTurn (last_slice plan.now context.now.points.now.watchpoints context.now.features
         (slice plan.now context.now.points.now steps (flow progress.old machine.old.state)))
         machine.old machine.new (W.writing out.old) (W.writing out.new) sent.new.items result }
     ensures fits { AreOfOneMachine position.new machine.new.state }
     ensures same { AreOfOneMachine machine.old.state machine.new.state }
+    ensures past { past.new ≡ past.old }
+    ensures ahead { IsAfterMark past.new machine.new.state }
 {
     match run_slice(
         plan,
         context.points,
         steps,
+        past,
         position,
         progress,
         machine,
@@ -201,6 +207,7 @@ fn make_slices<D: Decider, C: KeptCode, L: Exceptions, U: SysTickState, W: Out>(
     plan: &Plan,
     context: &RunContext,
     left: u64,
+    past: &mut Past<L, U>,
     position: &mut Position<L, U>,
     progress: &mut Progress,
     sent: &mut SentPacket,
@@ -209,11 +216,14 @@ fn make_slices<D: Decider, C: KeptCode, L: Exceptions, U: SysTickState, W: Out>(
 ) -> Result<Turn, IoError>
     requires room { progress.old.made + left < 2 ^ 64 }
     requires fits { AreOfOneMachine position.old machine.old.state }
+    requires ahead { IsAfterMark past.old machine.old.state }
     ensures takes { MakesTurn (all_slices plan.now context.now.points.now context.now.features left
         (flow progress.old machine.old.state))
         machine.old machine.new (W.writing out.old) (W.writing out.new) sent.new.items result }
     ensures fits { AreOfOneMachine position.new machine.new.state }
     ensures same { AreOfOneMachine machine.old.state machine.new.state }
+    ensures past { past.new ≡ past.old }
+    ensures ahead { IsAfterMark past.new machine.new.state }
 {
     let watchpoints = &context.points.watchpoints;
     let mut whole = left / MAX_SLICE_STEPS;
@@ -222,6 +232,7 @@ fn make_slices<D: Decider, C: KeptCode, L: Exceptions, U: SysTickState, W: Out>(
             plan,
             context.points,
             MAX_SLICE_STEPS,
+            past,
             position,
             progress,
             machine,
@@ -255,23 +266,29 @@ fn make_slices<D: Decider, C: KeptCode, L: Exceptions, U: SysTickState, W: Out>(
         whole -= 1;
     }
     let rest = left % MAX_SLICE_STEPS;
-    last_slice(plan, context, rest, position, progress, sent, machine, out)
+    last_slice(
+        plan, context, rest, past, position, progress, sent, machine, out,
+    )
 }
 
 /// Makes a run's next steps: at most 1,000,000 before GDB is asked whether its user has interrupted; a client that
 /// isn't GDB isn't asked. Writes its text as it comes, and at the end the lines that say why, and the stop reply.
-/// `position` is room for a state to go back to.
+/// `past` keeps checkpoints on the way, and `position` is room for a state to go back to.
 pub fn run_turn<D: Decider, C: KeptCode, L: Exceptions, U: SysTickState, W: Out>(
     run: Run,
     context: &RunContext,
+    past: &mut Past<L, U>,
     position: &mut Position<L, U>,
     sent: &mut SentPacket,
     machine: &mut Machine<D, C, L, U>,
     out: &mut W,
 ) -> Result<Turn, IoError>
-    requires { AreOfOneMachine position.old machine.old.state }
+    requires fits { AreOfOneMachine position.old machine.old.state }
+    requires ahead { IsAfterMark past.old machine.old.state }
     ensures fits { AreOfOneMachine position.new machine.new.state }
     ensures same { AreOfOneMachine machine.old.state machine.new.state }
+    ensures past { past.new ≡ past.old }
+    ensures ahead { IsAfterMark past.new machine.new.state }
     ensures delivers { Delivers
         (turn context.now.points.now context.now.settings context.now.features context.now.limit run
         machine.old.state).pieces machine.old machine.new (W.writing out.old) (W.writing out.new) result }
@@ -307,6 +324,7 @@ pub fn run_turn<D: Decider, C: KeptCode, L: Exceptions, U: SysTickState, W: Out>
         &plan,
         context,
         left,
+        past,
         position,
         &mut progress,
         sent,

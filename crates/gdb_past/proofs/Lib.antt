@@ -1,3 +1,5 @@
 mod Checkpointing
 pub mod Following
 mod Rooms
+mod Ticks
+pub mod Ways

@@ -1,3 +1,4 @@
 pub mod Checkpoints
 pub mod Places
 pub mod Rooms
+pub mod Ways

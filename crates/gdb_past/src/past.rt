@@ -1,8 +1,9 @@
 //! What a session keeps of a machine's past.
 
-ghost use Rattle.std.specs.Prelude.{◌≡◌, ℕ, ◌<◌, ◌≤◌, ◌∷◌, drop, length, slice_index_or, take, IfOk};
+ghost use Rattle.std.specs.Prelude.{◌≡◌, ℕ, ◌<◌, ◌≤◌, ◌∷◌, drop, length, slice_index_or, take, IfOk, None};
 ghost use Rattle.gdb_past.specs.Checkpoints.{max_checkpoints};
 ghost use Rattle.gdb_past.specs.Places.{AreOfOneMachine, below, marked, max_marks, past_from, tick_of};
+ghost use Rattle.gdb_past.specs.Ways.{IsAfterMark};
 ghost use Rattle.reference.specs.Run.{after};
 ghost use Rattle.reference.specs.State.{State};
 
@@ -11,6 +12,7 @@ use crate::position::make_steps;
 use machine::{Decider, Exceptions, KeptCode, Machine, SavedState, SysTickState};
 use std::alloc::{AllocError, Global};
 use std::marker::Model;
+use step_laws::signals_are_events;
 
 /// The most marks.
 const MAX_MARKS: usize = 8;
@@ -20,6 +22,14 @@ const SPREAD: usize = 12;
 
 /// The shortest distance between two of these.
 const MIN_SPACING: u64 = 262_144;
+
+/// The distance of the checkpoints of a machine that goes forward: one is kept at each tick that it divides, if only
+/// for a while.
+const FORWARD_SPACING: u64 = 32_768;
+
+/// How many levels these have: those of the next level are eight times as far apart. Of each the last two stay, in the
+/// slots 0 to 9.
+const LEVELS: usize = 5;
 
 /// The number of the slots. The last four are for checkpoints near the place that is gone to.
 const SLOTS: usize = 16;
@@ -82,6 +92,23 @@ impl<L: Exceptions, U: SysTickState> Mark<L, U> {
     {
         machine.restore(&self.saved);
     }
+}
+
+/// Returns the slot of the checkpoint of a tick: two for each level, in turn. At the ticks that eight times the spacing
+/// of a level divides are those of the next level.
+fn slot_ahead(tick: u64) -> usize
+    ensures { result < max_checkpoints }
+{
+    let mut rank = tick / FORWARD_SPACING;
+    let mut level = 0;
+    'levels: for next in 1..LEVELS {
+        if rank % 8 == 0 {
+            rank /= 8;
+            level = next;
+        }
+    }
+    let is_odd = (rank - rank / 8) % 2 == 1;
+    if is_odd { 2 * level + 1 } else { 2 * level }
 }
 
 /// What a session keeps of a machine's past.
@@ -292,6 +319,35 @@ impl<L: Exceptions, U: SysTickState> Past<L, U> {
         }
         self.advance(at, least, machine);
         least
+    }
+
+    /// Keeps a checkpoint where a machine is that goes forward, unless it has stopped.
+    fn keep_ahead<D: Decider, C: KeptCode>(&mut self, tick: u64, machine: &Machine<D, C, L, U>)
+        requires ahead { IsAfterMark self.old machine.now.state }
+        requires tick { tick ≡ tick_of machine.now.state }
+        ensures { self.new ≡ self.old }
+    {
+        match machine.stop() {
+            Some(_) => {}
+            None => {
+                signals_are_events();
+                let marks = self.count();
+                prove!(marks > 0);
+                let steps = tick.saturating_sub(self.tick(0));
+                self.save_to(slot_ahead(tick), steps, machine);
+            }
+        }
+    }
+
+    /// Follows a machine that goes forward: keeps checkpoints on its way from the last mark.
+    pub fn follow<D: Decider, C: KeptCode>(&mut self, machine: &Machine<D, C, L, U>)
+        requires { IsAfterMark self.old machine.now.state }
+        ensures { self.new ≡ self.old }
+    {
+        let tick = machine.ticks();
+        if tick % FORWARD_SPACING == 0 {
+            self.keep_ahead(tick, machine);
+        }
     }
 
     /// Forgets the last marks, so many.

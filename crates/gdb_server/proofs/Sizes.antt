@@ -5,17 +5,13 @@ use Rattle.std.proofs.lemmas.Bool.{cond_both}
 use Rattle.gdb.specs.Targets.{altered_if, place_of}
 use Rattle.gdb_past.proofs.Following.{board_alike, same_refl, same_trans}
 use Rattle.gdb_past.specs.Places.{AreOfOneMachine}
-use Rattle.gdb_server.specs.Commands.{placed_by}
 use Rattle.gdb_server.specs.Replies.{bytes_in}
 use Rattle.gdb_server.specs.declared.purposes.MachineChange.{MachineChange}
 use Rattle.gdb_server.specs.declared.purposes.MachineChange.TheVariants as change
 use Rattle.gdb_server.specs.Writes.{Written, after_place, are_there, block_written, done, later_unless, memory_written}
 use Rattle.gdb_server.specs.Writes.{is_of_device, one_register, refused, register_after, registers_from, with_byte}
 use Rattle.gdb_server.specs.Writes.{with_bytes, word_beside, word_of, word_written, written}
-use Rattle.gdb_texts.specs.declared.monitor.Monitor.{Monitor}
-use Rattle.gdb_texts.specs.declared.monitor.Monitor.TheVariants as monitor
 use Rattle.gdb_texts.specs.Registers.{word_at, written_register}
-use Rattle.debugger_commands.specs.declared.commands.LineError.{LineError}
 use Rattle.platform.specs.Map.{is_in_ppb}
 use Rattle.platform.specs.declared.error.PlaceError.{PlaceError}
 use Rattle.platform.specs.declared.error.PlaceError.TheVariants.{NotAligned, NoSuchPlace, Stopped}
@@ -93,21 +89,3 @@ written_stays s (change.Register n) tail = register_stays s n (word_at tail 0)
 written_stays s change.Registers tail = registers_stay s tail 0 23
 written_stays s (change.Digits a) tail = memory_stays s a (bytes_in tail)
 written_stays s (change.Bytes a) tail = memory_stays s a tail
-
-pub command_stays : (first s : State) (asked : Result Monitor LineError) → AreOfOneMachine s first
-    → Stays s (placed_by first s asked)
-command_stays first s (Ok monitor.Help) h = same_refl s
-command_stays first s (Ok (monitor.Explain a privileged kind)) h = same_refl s
-command_stays first s (Ok monitor.Regions) h = same_refl s
-command_stays first s (Ok monitor.State) h = same_refl s
-command_stays first s (Ok monitor.Next) h = same_refl s
-command_stays first s (Ok monitor.History) h = same_refl s
-command_stays first s (Ok (monitor.Trace selection)) h = same_refl s
-command_stays first s (Ok (monitor.Lines on)) h = same_refl s
-command_stays first s (Ok (monitor.Stop what on)) h = same_refl s
-command_stays first s (Ok (monitor.Step over)) h = same_refl s
-command_stays first s (Ok (monitor.Budget steps)) h = same_refl s
-command_stays first s (Ok (monitor.Place place)) h = put_stays s place
-command_stays first s (Ok monitor.Restart) h = h
-command_stays first s (Ok monitor.Why) h = same_refl s
-command_stays first s (Err why) h = same_refl s

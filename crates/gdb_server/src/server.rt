@@ -49,12 +49,12 @@ impl<L: Exceptions, U: SysTickState> Server<L, U> {
 }
 
 impl<L: Exceptions, U: SysTickState> Protocol<L, U> for Server<L, U> {
-    ghost use Rattle.gdb_past.specs.Places.{AreOfOneMachine};
+    ghost use Rattle.gdb_past.specs.Ways.{IsAfterMark};
     ghost use Rattle.gdb_server.specs.Conduct.{conduct};
 
     ghost conduct = { conduct };
 
-    ghost ready = { λ server s. AreOfOneMachine server.session.past.start s };
+    ghost ready = { λ server s. IsAfterMark server.session.past s };
 
     fn is_open(&self) -> bool {
         self.session.is_open()

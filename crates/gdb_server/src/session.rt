@@ -3,6 +3,7 @@
 ghost use Rattle.std.specs.Prelude.{◌≡◌, ◌≤◌, IfOk, OnOk, Some, false, length};
 ghost use Rattle.gdb_packets.specs.Replies.{packet_of};
 ghost use Rattle.gdb_past.specs.Places.{AreOfOneMachine};
+ghost use Rattle.gdb_past.specs.Ways.{IsAfterMark};
 ghost use Rattle.gdb_packets.specs.Views.{packet_view};
 ghost use Rattle.gdb_server.specs.Commands.{command_of, placed_by, settings_with};
 ghost use Rattle.gdb_server.specs.Conduct.{acknowledgement, answered, begun, commanded, gone_on, event_answered};
@@ -351,13 +352,13 @@ impl<L: Exceptions, U: SysTickState> Session<L, U> {
         tail: &[u8],
         out: &mut W,
     ) -> Result<(), IoError>
-        requires { AreOfOneMachine self.old.past.start machine.old.state }
+        requires { IsAfterMark self.old.past machine.old.state }
         ensures delivers { Delivers
             (wrote self.old (writes change tail.now) (written machine.old.state change tail.now)).pieces
             machine.old machine.new (W.writing out.old) (W.writing out.new) result }
         ensures kept { self.new
             ≡ (wrote self.old (writes change tail.now) (written machine.old.state change tail.now)).session }
-        ensures same { AreOfOneMachine machine.old.state machine.new.state }
+        ensures ahead { OnOk result (IsAfterMark self.new.past machine.new.state) }
     {
         let refused = write(machine, change, tail);
         self.mark_after(writes(change, tail), machine, refused);
@@ -413,12 +414,12 @@ impl<L: Exceptions, U: SysTickState> Session<L, U> {
         digits: &[u8],
         out: &mut W,
     ) -> Result<(), IoError>
-        requires { AreOfOneMachine self.old.past.start machine.old.state }
+        requires { IsAfterMark self.old.past machine.old.state }
         ensures delivers { Delivers (commanded self.old machine.old.state (command_of digits.now)).pieces machine.old
             machine.new (W.writing out.old) (W.writing out.new) result }
         ensures kept { OnOk result
             (self.new ≡ (commanded self.old machine.old.state (command_of digits.now)).session) }
-        ensures same { AreOfOneMachine machine.old.state machine.new.state }
+        ensures ahead { OnOk result (IsAfterMark self.new.past machine.new.state) }
     {
         let asked = read_command(digits);
         let refused = self.place_by(machine, asked);
@@ -446,11 +447,11 @@ impl<L: Exceptions, U: SysTickState> Session<L, U> {
         run: Run,
         out: &mut W,
     ) -> Result<(), IoError>
-        requires { AreOfOneMachine self.old.past.start machine.old.state }
+        requires { IsAfterMark self.old.past machine.old.state }
         ensures delivers { Delivers (resumed self.old machine.old.state run).pieces machine.old machine.new
             (W.writing out.old) (W.writing out.new) result }
         ensures kept { OnOk result (self.new ≡ (resumed self.old machine.old.state run).session) }
-        ensures same { AreOfOneMachine machine.old.state machine.new.state }
+        ensures ahead { OnOk result (IsAfterMark self.new.past machine.new.state) }
     {
         let context = RunContext {
             points: &self.points,
@@ -461,6 +462,7 @@ impl<L: Exceptions, U: SysTickState> Session<L, U> {
         match run_turn(
             run,
             &context,
+            &mut self.past,
             &mut self.position,
             &mut self.sent,
             machine,
@@ -494,11 +496,11 @@ impl<L: Exceptions, U: SysTickState> Session<L, U> {
         search: Search,
         out: &mut W,
     ) -> Result<(), IoError>
-        requires { AreOfOneMachine self.old.past.start machine.old.state }
+        requires { IsAfterMark self.old.past machine.old.state }
         ensures delivers { Delivers (searched self.old machine.old.state search).pieces machine.old machine.new
             (W.writing out.old) (W.writing out.new) result }
         ensures kept { OnOk result (self.new ≡ (searched self.old machine.old.state search).session) }
-        ensures same { AreOfOneMachine machine.old.state machine.new.state }
+        ensures ahead { OnOk result (IsAfterMark self.new.past machine.new.state) }
     {
         let context = RunContext {
             points: &self.points,
@@ -530,11 +532,11 @@ impl<L: Exceptions, U: SysTickState> Session<L, U> {
         waiting: Waiting,
         out: &mut W,
     ) -> Result<(), IoError>
-        requires { AreOfOneMachine self.old.past.start machine.old.state }
+        requires { IsAfterMark self.old.past machine.old.state }
         ensures delivers { Delivers (gone_on self.old machine.old.state waiting).pieces machine.old machine.new
             (W.writing out.old) (W.writing out.new) result }
         ensures kept { OnOk result (self.new ≡ (gone_on self.old machine.old.state waiting).session) }
-        ensures same { AreOfOneMachine machine.old.state machine.new.state }
+        ensures ahead { OnOk result (IsAfterMark self.new.past machine.new.state) }
     {
         match waiting {
             Waiting::Running(run) => self.resume(machine, run, out),
@@ -548,12 +550,12 @@ impl<L: Exceptions, U: SysTickState> Session<L, U> {
         machine: &mut Machine<D, C, L, U>,
         out: &mut W,
     ) -> Result<(), IoError>
-        requires { AreOfOneMachine self.old.past.start machine.old.state }
+        requires { IsAfterMark self.old.past machine.old.state }
         ensures delivers { Delivers (begun self.old).pieces machine.old machine.new (W.writing out.old)
             (W.writing out.new)
             result }
         ensures kept { self.new ≡ (begun self.old).session }
-        ensures same { AreOfOneMachine machine.old.state machine.new.state }
+        ensures ahead { OnOk result (IsAfterMark self.new.past machine.new.state) }
     {
         self.restart(machine);
         let data = self.read(machine, Reading::StopReason);
@@ -568,12 +570,12 @@ impl<L: Exceptions, U: SysTickState> Session<L, U> {
         tail: &[u8],
         out: &mut W,
     ) -> Result<(), IoError>
-        requires { AreOfOneMachine self.old.past.start machine.old.state }
+        requires { IsAfterMark self.old.past machine.old.state }
         ensures delivers { Delivers (answered self.old machine.old.state purpose tail.now).pieces machine.old
             machine.new
             (W.writing out.old) (W.writing out.new) result }
         ensures kept { OnOk result (self.new ≡ (answered self.old machine.old.state purpose tail.now).session) }
-        ensures same { AreOfOneMachine machine.old.state machine.new.state }
+        ensures ahead { OnOk result (IsAfterMark self.new.past machine.new.state) }
     {
         match purpose {
             Purpose::Nothing => Ok(()),
@@ -611,13 +613,13 @@ impl<L: Exceptions, U: SysTickState> Session<L, U> {
         packet: Packet<'_>,
         out: &mut W,
     ) -> Result<(), IoError>
-        requires { AreOfOneMachine self.old.past.start machine.old.state }
+        requires { IsAfterMark self.old.past machine.old.state }
         ensures delivers { Delivers
             (reply_answered self.old machine.old.state waiting (packet_view packet.entry)).pieces machine.old
             machine.new (W.writing out.old) (W.writing out.new) result }
         ensures kept { OnOk result
             (self.new ≡ (reply_answered self.old machine.old.state waiting (packet_view packet.entry)).session) }
-        ensures same { AreOfOneMachine machine.old.state machine.new.state }
+        ensures ahead { OnOk result (IsAfterMark self.new.past machine.new.state) }
     {
         if is_file_reply(packet.request) {
             let waiting = interrupted_if(is_interrupt(packet.tail), waiting);
@@ -634,13 +636,13 @@ impl<L: Exceptions, U: SysTickState> Session<L, U> {
         packet: Packet<'_>,
         out: &mut W,
     ) -> Result<(), IoError>
-        requires { AreOfOneMachine self.old.past.start machine.old.state }
+        requires { IsAfterMark self.old.past machine.old.state }
         ensures delivers { Delivers (packet_answered self.old machine.old.state (packet_view packet.entry)).pieces
             machine.old
             machine.new (W.writing out.old) (W.writing out.new) result }
         ensures kept { OnOk result
             (self.new ≡ (packet_answered self.old machine.old.state (packet_view packet.entry)).session) }
-        ensures same { AreOfOneMachine machine.old.state machine.new.state }
+        ensures ahead { OnOk result (IsAfterMark self.new.past machine.new.state) }
     {
         match self.waiting() {
             Some(waiting) => self.take_reply(machine, waiting, packet, out),
@@ -719,12 +721,12 @@ impl<L: Exceptions, U: SysTickState> Session<L, U> {
         content: &[u8],
         out: &mut W,
     ) -> Result<(), IoError>
-        requires { AreOfOneMachine self.old.past.start machine.old.state }
+        requires { IsAfterMark self.old.past machine.old.state }
         ensures delivers { Delivers (whole_answered self.old machine.old.state content.now).pieces machine.old
             machine.new
             (W.writing out.old) (W.writing out.new) result }
         ensures kept { OnOk result (self.new ≡ (whole_answered self.old machine.old.state content.now).session) }
-        ensures same { AreOfOneMachine machine.old.state machine.new.state }
+        ensures ahead { OnOk result (IsAfterMark self.new.past machine.new.state) }
     {
         match self.acknowledge(machine, b'+', out) {
             Ok(()) => {}
@@ -758,12 +760,12 @@ impl<L: Exceptions, U: SysTickState> Session<L, U> {
         content: &[u8],
         out: &mut W,
     ) -> Result<(), IoError>
-        requires { AreOfOneMachine self.old.past.start machine.old.state }
+        requires { IsAfterMark self.old.past machine.old.state }
         ensures delivers { Delivers (event_answered self.old machine.old.state event content.now).pieces machine.old
             machine.new
             (W.writing out.old) (W.writing out.new) result }
         ensures kept { OnOk result (self.new ≡ (event_answered self.old machine.old.state event content.now).session) }
-        ensures same { AreOfOneMachine machine.old.state machine.new.state }
+        ensures ahead { OnOk result (IsAfterMark self.new.past machine.new.state) }
     {
         match event {
             Event::Nothing | Event::Acknowledgement => Ok(()),

@@ -2,6 +2,7 @@ use Rattle.std.proofs.Common.{◌≡◌, ◌∙◌, ◌+◌, ◌-◌, ℕ, ap, a
 use Rattle.std.proofs.lemmas.List.{get_or-drop, length-drop}
 use Rattle.gdb.specs.Searches.{events_for}
 use Rattle.gdb_past.specs.Places.{Past}
+use Rattle.machine.specs.MachineModel.{MachineModel}
 use Rattle.reference.specs.Run.{after}
 use Rattle.reference.specs.State.{State}
 use Rattle.gdb.proofs.returns.arrive.Goals as goal
@@ -42,3 +43,10 @@ returns-clause-state g c = λ s.
 
 pub returns-clause-same : goal.returns-clause-same
 returns-clause-same g c = rw c.forget.ensures at c.reach.ensures.same
+
+pub returns-clause-ahead : goal.returns-clause-ahead
+returns-clause-ahead g c = record {
+  fits = rw c.reach.ensures.past c.reach.ensures.same;
+  steps = c.args.target.found.steps;
+  there = λ m. rw c.reach.ensures.past (ap (λ (k : MachineModel). k.state) (c.reach.ensures.state m));
+}

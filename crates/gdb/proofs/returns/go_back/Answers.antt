@@ -30,6 +30,9 @@ returns-then-search-clause-fits g c = c.requires.fits
 pub returns-then-search-clause-same : goal.returns-then-search-clause-same
 returns-then-search-clause-same g c = same_refl c.args.machine.now.state
 
+pub returns-then-search-clause-ahead : goal.returns-then-search-clause-ahead
+returns-then-search-clause-ahead g c = c.requires.ahead
+
 -- a place
 pub end_return-requires-in-Some : goal.end_return-requires-in-Some
 end_return-requires-in-Some g c =
@@ -69,14 +72,14 @@ returns-in-Some-clause-fits g c =
     let s : State = c.args.machine.now.state in
     let start : State = c.args.past.now.start in
     rw c.take.ensures
-    (same_trans s start c.arrive.new.machine.state (same_sym start s c.requires.past)
+    (same_trans s start c.arrive.new.machine.state (same_sym start s c.requires.ahead.fits)
     (rw c.place_back.ensures.past at c.arrive.ensures.same))
 
 pub returns-in-Some-clause-same : goal.returns-in-Some-clause-same
 returns-in-Some-clause-same g c =
     let s : State = c.args.machine.now.state in
     let start : State = c.args.past.now.start in
-    same_trans s start c.arrive.new.machine.state (same_sym start s c.requires.past)
+    same_trans s start c.arrive.new.machine.state (same_sym start s c.requires.ahead.fits)
     (rw c.place_back.ensures.past at c.arrive.ensures.same)
 
 -- GDB is asked
@@ -85,7 +88,7 @@ ask-requires g c =
     let there : State = c.place_back.new.machine.state in
     let start : State = c.args.past.now.start in
     rw c.take.ensures
-    (same_trans there start c.args.machine.now.state (same_sym start there c.place_back.ensures.same) c.requires.past)
+    (same_trans there start c.args.machine.now.state (same_sym start there c.place_back.ensures.same) c.requires.ahead.fits)
 
 pub returns-in-None-clause-returns : goal.returns-in-None-clause-returns
 returns-in-None-clause-returns g c =
@@ -109,3 +112,7 @@ returns-in-None-clause-fits g c = rw c.ask.ensures.state (same_refl c.take.new.s
 pub returns-in-None-clause-same : goal.returns-in-None-clause-same
 returns-in-None-clause-same g c =
     rw c.ask.ensures.state (rw c.take.ensures (same_refl c.args.machine.now.state))
+
+pub returns-in-None-clause-ahead : goal.returns-in-None-clause-ahead
+returns-in-None-clause-ahead g c =
+    rw c.place_back.ensures.past (rw c.ask.ensures.state (rw c.take.ensures c.requires.ahead))

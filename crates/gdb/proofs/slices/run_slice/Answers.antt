@@ -1,10 +1,12 @@
 use Rattle.std.proofs.Common.{◌≡◌, ◌+◌, ◌-◌, ◌<◌, ◌≤◌, ◌++◌, [], None, refl, sym, ◌∙◌}
-use Rattle.std.proofs.Common.{ap, arith, is_some, true, false}
+use Rattle.std.proofs.Common.{ap, arith, is_some, subst, true, false}
 use Rattle.gdb.proofs.Slicing.{all_delivered, before_is, continues, ended_before, ends_in, flow_made, has_pieces}
 use Rattle.gdb.proofs.Slicing.{left_at}
 use Rattle.gdb.proofs.Slicing.{more_delivered}
 use Rattle.gdb.proofs.Slicing.{next_cut, none_left, not_before, nothing_yet, step_leaves}
 use Rattle.gdb_past.proofs.Following.{same_refl, same_trans}
+use Rattle.gdb_past.specs.Places.{Past}
+use Rattle.gdb_past.specs.Ways.{IsAfterMark}
 use Rattle.gdb.specs.Slices.{Flow, Progress, Sliced, before_step, flow, one_step, slice}
 use Rattle.gdb.proofs.slices.run_slice.Goals as goal
 
@@ -15,6 +17,8 @@ steps-init g c = record {
   ready = c.prepare.ensures.ready;
   fits = c.prepare.ensures.fits;
   same = same_refl c.args.machine.now.state;
+  past = refl;
+  ahead = c.requires.ahead;
 }
 
 -- the run ends before a step
@@ -101,6 +105,20 @@ returns-in-Err-clause-delivers g c =
     next_cut _ _ _ (one_step p points f).pieces _ _ _ _ _ _ c.steps.invariant.slides
     (has_pieces p points c.steps.left f c.steps-test.true (not_before _ _ before none)) c.in-Err.ensures.delivers
 
+-- it stays after the last mark
+pub returns-in-Ok-Some-clause-ahead : goal.returns-in-Ok-Some-clause-ahead
+returns-in-Ok-Some-clause-ahead g c =
+    let made = rw c.in-Ok-Some.field-0-is at c.in-Ok-Some.ensures in
+    made.ahead c.steps.past c.steps.invariant.ahead
+
+pub returns-in-Err-clause-ahead : goal.returns-in-Err-clause-ahead
+returns-in-Err-clause-ahead g c = c.in-Err.ensures.ahead c.steps.past c.steps.invariant.ahead
+
+pub follow-requires : goal.follow-requires
+follow-requires g c =
+    let made = rw c.in-Ok-None.field-0-is at c.in-Ok-None.ensures in
+    made.ahead c.steps.past c.steps.invariant.ahead
+
 -- it goes on
 pub steps-preserved : goal.steps-preserved
 steps-preserved g c =
@@ -130,6 +148,9 @@ steps-preserved g c =
       fits = made.fits;
       same = same_trans c.args.machine.now.state c.steps.machine.state c.make_step.new.machine.state
           c.steps.invariant.same made.same;
+      past = c.follow.ensures ∙ c.steps.invariant.past;
+      ahead = subst (λ (p : Past). IsAfterMark p c.make_step.new.machine.state) (sym c.follow.ensures)
+          (made.ahead c.steps.past c.steps.invariant.ahead);
     }
 
 -- all steps were made

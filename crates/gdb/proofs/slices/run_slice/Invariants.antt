@@ -1,8 +1,9 @@
-use Rattle.std.proofs.Common.{◌≤◌, ◌+◌}
+use Rattle.std.proofs.Common.{◌≡◌, ◌≤◌, ◌+◌}
 use Rattle.gdb.proofs.Slicing.{Sliding}
 use Rattle.gdb.specs.Slices.{flow, slice}
 use Rattle.gdb.specs.Watching.{IsReady}
 use Rattle.gdb_past.specs.Places.{AreOfOneMachine}
+use Rattle.gdb_past.specs.Ways.{IsAfterMark}
 use Rattle.gdb.proofs.slices.run_slice.Given as goal
 
 -- the pieces so far went out, and those of the steps that are left are still to come
@@ -15,6 +16,8 @@ invariant-steps g l = record {
   ready : IsReady l.points.watchpoints l.position l.machine.state;
   fits : AreOfOneMachine l.position l.machine.state;
   same : AreOfOneMachine l.fn.machine.state l.machine.state;
+  past : l.past ≡ l.fn.past;
+  ahead : IsAfterMark l.past l.machine.state;
 }
 
 abbrev pub decreases-steps : goal.decreases-steps

@@ -1,6 +1,7 @@
-use Rattle.std.proofs.Common.{◌≡◌, ◌==◌, ◌∙◌, length, refl, subst, sym, true}
+use Rattle.std.proofs.Common.{◌≡◌, ◌==◌, ◌∙◌, ap, false, length, refl, subst, sym, true}
 use Rattle.gdb.proofs.Slicing.{none_watched}
 use Rattle.gdb_past.proofs.Following.{same_refl, same_step, same_sym, same_trans}
+use Rattle.gdb_past.proofs.Ways.{on_by, on_at}
 use Rattle.gdb_past.specs.Places.{AreOfOneMachine}
 use Rattle.machine.specs.MachineModel.{MachineModel}
 use Rattle.reference.specs.State.{State}
@@ -41,3 +42,17 @@ returns-in-None-clause-same g c =
 
 pub returns-in-None-clause-fits : goal.returns-in-None-clause-fits
 returns-in-None-clause-fits g c = rw c.follow.ensures (same_refl c.step.new.self.state)
+
+-- it stays after the last mark
+pub returns-then-is_empty-clause-ahead : goal.returns-then-is_empty-clause-ahead
+returns-then-is_empty-clause-ahead g c = on_by c.args.machine.now c.step.new.self c.step.ensures.state
+
+pub returns-in-Some-clause-ahead : goal.returns-in-Some-clause-ahead
+returns-in-Some-clause-ahead g c =
+    let some : (length c.args.points.now.watchpoints == 0) ≡ false =
+    sym c.is_empty.ensures ∙ c.if-is_empty.false in
+    on_at c.args.machine.now.state c.restore.new.machine.state
+    (ap (λ (m : MachineModel). m.state) c.restore.ensures ∙ c.requires.ready some)
+
+pub returns-in-None-clause-ahead : goal.returns-in-None-clause-ahead
+returns-in-None-clause-ahead g c = on_by c.args.machine.now c.step.new.self c.step.ensures.state

@@ -1,4 +1,4 @@
-use Rattle.std.proofs.Common.{◌≡◌, ◌+◌, ◌-◌, ◌%◌, ◌≤◌, suc, true, false, refl, arith, sym, ap}
+use Rattle.std.proofs.Common.{◌≡◌, ◌+◌, ◌-◌, ◌%◌, ◌≤◌, ◌∙◌, suc, true, false, refl, arith, sym, ap}
 use Rattle.gdb.proofs.Turning.{asks, asks_cut, asks_none, flush_cut, not_begun, past_flush, past_slice, rest_cut}
 use Rattle.gdb.proofs.Slicing.{slice_leaves}
 use Rattle.gdb_past.proofs.Following.{same_refl, same_trans}
@@ -13,6 +13,8 @@ slices-init g c = record {
   count = omega (arith, c.requires.room);
   fits = c.requires.fits;
   same = same_refl c.args.machine.now.state;
+  past = refl;
+  ahead = c.requires.ahead;
 }
 
 pub run_slice-requires-clause-room : goal.run_slice-requires-clause-room
@@ -176,6 +178,8 @@ slices-preserved g c =
       fits = made.fits;
       same = same_trans c.args.machine.now.state c.slices.machine.state c.run_slice.new.machine.state
           c.slices.invariant.same made.same;
+      past = made.past ∙ c.slices.invariant.past;
+      ahead = made.ahead;
     }
 
 -- the last slice

@@ -1,7 +1,8 @@
-use Rattle.std.proofs.Common.{◌+◌, ◌*◌, ◌%◌, ◌^◌, ◌<◌}
+use Rattle.std.proofs.Common.{◌≡◌, ◌+◌, ◌*◌, ◌%◌, ◌^◌, ◌<◌}
 use Rattle.gdb.proofs.Turning.{Going}
 use Rattle.gdb.specs.Slices.{flow}
 use Rattle.gdb_past.specs.Places.{AreOfOneMachine}
+use Rattle.gdb_past.specs.Ways.{IsAfterMark}
 use Rattle.gdb.specs.Turns.{all_slices, slices, max_slice_steps}
 use Rattle.gdb.proofs.turns.make_slices.Given as goal
 
@@ -14,6 +15,8 @@ invariant-slices g l = record {
       (flow l.progress l.machine.state)) l.fn.machine l.machine (g.W.Out.writing l.fn.out) (g.W.Out.writing l.out);
   fits : AreOfOneMachine l.position l.machine.state;
   same : AreOfOneMachine l.fn.machine.state l.machine.state;
+  past : l.past ≡ l.fn.past;
+  ahead : IsAfterMark l.past l.machine.state;
   count : l.progress.made + l.whole * max_slice_steps + l.left % max_slice_steps < 2 ^ 64;
 }
 

@@ -1,10 +1,10 @@
-use Rattle.std.proofs.Common.{◌≡◌, ◌∙◌, rules, subst, sym}
-use Rattle.gdb_past.proofs.Following.{same_sym}
-use Rattle.gdb_past.specs.Places.{AreOfOneMachine}
+use Rattle.std.proofs.Common.{◌≡◌, ◌∙◌, ap, rules}
+use Rattle.gdb_past.specs.Places.{past_from}
+use Rattle.gdb_server.proofs.Ahead.{now_ahead, ready_first}
 use Rattle.gdb_server.proofs.Keeping.{moved}
 use Rattle.gdb_server.specs.Conduct.{answered}
 use Rattle.machine.specs.MachineModel.{MachineModel}
-use Rattle.reference.specs.State.{State}
+use Rattle.gdb_server.specs.Sessions.{Session}
 use Rattle.gdb_server.proofs.session.Session.answer.Goals as goal
 
 pub returns-in-Say-clause-delivers : goal.returns-in-Say-clause-delivers
@@ -46,8 +46,11 @@ returns-in-Restart-clause-delivers g c =
     rw c.in-Restart.is (moved c.args.self.now.past.start c.args.machine.now c.restart.new.machine
     (g.W.Out.writing c.args.out.now) c.restart.ensures.machine)
 
-pub returns-in-Restart-clause-same : goal.returns-in-Restart-clause-same
-returns-in-Restart-clause-same g c =
-    let s : State = c.args.machine.now.state in
-    subst (λ (m : MachineModel). AreOfOneMachine s m.state) (sym c.restart.ensures.machine)
-    (same_sym c.args.self.now.past.start s c.requires)
+pub returns-in-Restart-clause-ahead : goal.returns-in-Restart-clause-ahead
+returns-in-Restart-clause-ahead g c =
+    now_ahead c.restart.new.self c.restart.new.machine (past_from c.args.self.now.past.start)
+    c.args.self.now.past.start (ap (λ (k : Session). k.past) c.restart.ensures.kept)
+    (ap (λ (m : MachineModel). m.state) c.restart.ensures.machine) (ready_first c.args.self.now.past.start)
+
+pub restart-requires : goal.restart-requires
+restart-requires g c = c.requires.fits

@@ -1,11 +1,11 @@
-use Rattle.std.proofs.Common.{◌≡◌, List, ℕ, Result, ap, subst, sym}
-use Rattle.gdb_past.proofs.Following.{same_sym}
-use Rattle.gdb_past.specs.Places.{AreOfOneMachine}
+use Rattle.std.proofs.Common.{◌≡◌, List, ℕ, Result, ap, subst}
+use Rattle.gdb_past.specs.Places.{past_from}
+use Rattle.gdb_server.proofs.Ahead.{now_ahead, on_ok, ready_first}
 use Rattle.gdb_server.proofs.Marking.{begun_data, session_begun}
-use Rattle.gdb_server.specs.Conduct.{piece}
+use Rattle.gdb_server.specs.Conduct.{begun, piece}
 use Rattle.gdb_server.specs.declared.purposes.Reading.TheVariants as reading
 use Rattle.gdb_server.specs.Replies.{data_read}
-use Rattle.gdb_server.specs.Sessions.{reply_packet}
+use Rattle.gdb_server.specs.Sessions.{Session, reply_packet}
 use Rattle.gdb_texts.specs.declared.replies.ErrorCode.{ErrorCode}
 use Rattle.machine.specs.MachineModel.{MachineModel}
 use Rattle.output.specs.Output.{Put}
@@ -33,8 +33,17 @@ returns-clause-kept g c =
     c.restart.ensures.kept (ap (λ (m : MachineModel). m.state) c.restart.ensures.machine) c.read-data.ensures
     c.put_reply.ensures.kept
 
-pub returns-clause-same : goal.returns-clause-same
-returns-clause-same g c =
-    let s : State = c.args.machine.now.state in
-    subst (λ (m : MachineModel). AreOfOneMachine s m.state) (sym c.restart.ensures.machine)
-    (same_sym c.args.self.now.past.start s c.requires)
+pub returns-clause-ahead : goal.returns-clause-ahead
+returns-clause-ahead g c =
+    let k = c.args.self.now in
+    let kept : c.put_reply.new.self ≡ (begun k).session =
+    session_begun k c.restart.new.self c.put_reply.new.self c.restart.new.machine.state c.read-data.result
+    c.restart.ensures.kept (ap (λ (m : MachineModel). m.state) c.restart.ensures.machine) c.read-data.ensures
+    c.put_reply.ensures.kept in
+    on_ok c.put_reply.result
+    (now_ahead c.put_reply.new.self c.restart.new.machine (past_from k.past.start) k.past.start
+    (ap (λ (s : Session). s.past) kept) (ap (λ (m : MachineModel). m.state) c.restart.ensures.machine)
+    (ready_first k.past.start))
+
+pub restart-requires : goal.restart-requires
+restart-requires g c = c.requires.fits
