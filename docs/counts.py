@@ -47,7 +47,7 @@ def crates():
 
 
 # the crates of definitions, the lowest first
-DEFINITIONS = ("instruction_set", "platform", "reference")
+DEFINITIONS = ("instruction_set", "devices", "platform", "reference")
 
 
 def crates_above(base):

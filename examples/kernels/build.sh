@@ -22,7 +22,7 @@ flags+=("${more[@]}")
 # The start code of the kit, for a program without a C library.
 "$compiler" "${flags[@]}" -Wa,-defsym,PLAIN=1 -c "$here/../firmware/kit/start.s" -o "$work/start.o"
 
-# build NAME SOURCE..: a kernel of these sources, the start code and the runtime, without symbols.
+# build NAME SOURCE..: a kernel of these sources, the start code and the runtime.
 build() {
     local name=$1 source objects=("$work/start.o")
     shift
