@@ -1,5 +1,5 @@
 mod Checkpointing
 pub mod Following
 mod Rooms
-mod Ticks
+pub mod Ticks
 pub mod Ways

@@ -216,7 +216,8 @@ module _ (law : (s : State) (what : Signal) → SignalIsEvent s what) where
   one_of e script tick c (inl more) (inr is) = is
   one_of e script tick c (inr is) other = is
 
-  step_counts : (s : State) → s.stop ≡ None → nat_le last_tick (tick_of s) ≡ false
+  -- a step of a machine that runs, where the clock isn't at its end, counts a tick
+  pub step_counts : (s : State) → s.stop ≡ None → nat_le last_tick (tick_of s) ≡ false
       → tick_of (step s).state ≡ tick_of s + 1
   step_counts s runs early =
       let e : ScriptedEvent = record { at = tick_of s + 1; what = no_change s.bus.system } in
