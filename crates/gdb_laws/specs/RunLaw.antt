@@ -65,7 +65,7 @@ TurnLaw points k features limit run s = MakesSteps k points.watchpoints s (turn 
 
 -- ---- `c` with nothing that stops it
 
--- `monitor trace all`, no breakpoint, no watchpoint, and no `monitor stop ..`
+-- `monitor trace all`, lines that say why a run ends, no breakpoint, no watchpoint, and no `monitor stop ..`
 pub record TracesAll (points : Points) (k : Settings) : Type 0 where
   pub selection : k.selection ≡ lines.All
   pub has_lines : k.has_lines ≡ true
