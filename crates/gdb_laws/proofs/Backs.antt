@@ -19,7 +19,7 @@ use Rattle.gdb.specs.Turns.{Turned, turn}
 use Rattle.gdb_past.specs.Places.{Past, tick_of}
 use Rattle.gdb_laws.proofs.Units.{EndsIn, EndsWhole, IsEarly, OnlyLastEnds, turn_unit}
 use Rattle.gdb_laws.proofs.Made.{after_both}
-use Rattle.gdb_laws.specs.BackLaw.{EndsUnit, IsAlike, MayStepBack, StepAgainLaw, StepBackLaw, StepsTakeTicks}
+use Rattle.gdb_laws.specs.BackLaw.{EndsUnit, IsAlike, MayStepBack, StepAgainLaw, StepBackLaw}
 use Rattle.gdb_server.specs.Conduct.{first_turn, returned, with_return, with_turn}
 use Rattle.gdb_server.specs.Sessions.{Session}
 use Rattle.gdb_texts.specs.declared.actions.Resume.TheVariants.{Step}
@@ -190,16 +190,22 @@ module _ (points : Points) (k : Settings) (m : State) (n now : ℕ) (some : 0 < 
 
 -- ---- a step and a step back
 
+-- each step of a machine that runs counts a tick, where the clock isn't at its end
+abbrev pub CountsTicks : Type 0
+CountsTicks =
+    (s : State) → s.stop ≡ None → nat_le last_tick (tick_of s) ≡ false → tick_of (step s).state ≡ tick_of s + 1
+
 -- the clock after some steps
-counted : (limit : ℕ) (s : State) (n : ℕ) → StepsTakeTicks → limit ≤ last_tick
+counted : (limit : ℕ) (s : State) (n : ℕ) → CountsTicks → limit ≤ last_tick
     → ((i : ℕ) → i < n → (after i s).stop ≡ None) → IsEarly limit s n → tick_of (after n s) ≡ tick_of s + n
 unfolding after
-counted limit s zero ticks within going early = omega arith
-counted limit s (suc n) ticks within going early =
+counted limit s zero counts within going early = omega arith
+counted limit s (suc n) counts within going early =
     let now = early n (omega arith) in
-    let below : tick_of (after n s) < last_tick = omega (arith, now, within) in
-    let one = ticks (after n s) (going n (omega arith)) below in
-    let before = counted limit s n ticks within (λ i less. going i (omega (arith, less)))
+    let below : nat_le last_tick (tick_of (after n s)) ≡ false = (let less : tick_of (after n s) < last_tick =
+    omega (arith, now, within) in grind (arith, nat_tests)) in
+    let one = counts (after n s) (going n (omega arith)) below in
+    let before = counted limit s n counts within (λ i less. going i (omega (arith, less)))
     (λ i less. early i (omega (arith, less))) in
     omega (arith, one, before)
 
@@ -237,14 +243,14 @@ alike_after k j (returning.Ends signal) sent past alike same = record {
   past = same ∙ alike.past;
 }
 
-pub back_law : (k j : Session) (s : State) (tail more : List ℕ) → StepBackLaw k j s tail more
-back_law k j s tail more ticks may goes =
+pub back_law : CountsTicks → (k j : Session) (s : State) (tail more : List ℕ) → StepBackLaw k j s tail more
+back_law counts k j s tail more may goes =
     let here = may.here in
     let t : Turned = turn k.points k.settings k.features k.limit (first_turn Step) s in
     let unit = turn_unit k.limit k.settings may.into k.points k.features (first_turn Step) s refl refl refl in
     let there : State = last_state s t.pieces in
     let tick : tick_of there ≡ tick_of s + unit.steps =
-    ap tick_of unit.state ∙ counted k.limit s unit.steps ticks may.limit unit.going unit.early in
+    ap tick_of unit.state ∙ counted k.limit s unit.steps counts may.limit unit.going unit.early in
     let some : 0 < unit.steps = omega (arith, goes.made, tick) in
     let now : tick_of there ≡ tick_of here.mark + (here.steps + unit.steps) = omega (arith, tick, here.tick) in
     let low : ℕ = low_of j.features (tick_of there) in
@@ -280,8 +286,8 @@ unit_in : (k : Session) (o : Turn) (stop : Option Stop) (X : Type 0) → (with_t
 unit_in k (turning.Asks run) stop X ended trap goes whole = absurd (let w : ⊥ = cc in w)
 unit_in k (turning.Ends signal) stop X ended trap goes whole = whole trap goes
 
-pub again_law : (k : Session) (s : State) (tail : List ℕ) → StepAgainLaw k s tail
-again_law k s tail ticks may made =
+pub again_law : CountsTicks → (k : Session) (s : State) (tail : List ℕ) → StepAgainLaw k s tail
+again_law counts k s tail may made =
     let here = may.here in
     let t : Turned = turn k.points k.settings k.features k.limit (first_turn Step) s in
     let unit = turn_unit k.limit k.settings may.into k.points k.features (first_turn Step) s refl refl refl in
@@ -290,7 +296,7 @@ again_law k s tail ticks may made =
     let ends = unit_in (record k { sent = t.sent }) t.outcome (after unit.steps s).stop (EndsIn s unit.steps) made.ended
     made.signal goes (unit.whole (made.breakpoints, made.watchpoints)) in
     let tick : tick_of there ≡ tick_of s + unit.steps =
-    ap tick_of unit.state ∙ counted k.limit s unit.steps ticks may.limit unit.going unit.early in
+    ap tick_of unit.state ∙ counted k.limit s unit.steps counts may.limit unit.going unit.early in
     let is = ends.is in
     let number : here.steps + unit.steps ≡ suc (here.steps + ends.index) = omega (arith, is) in record {
       may = may_after k t.outcome t.sent there (record {
