@@ -1,0 +1,7 @@
+mod Backs
+mod Cuts
+mod Hits
+mod Made
+mod OnlyReading
+mod Traces
+mod Units
