@@ -125,10 +125,9 @@ fn the_table_and_kept_decisions_decide_as_the_search() -> Result<(), Fail> {
     check(AGREEMENTS, &mut Agreements)
 }
 
-/// Returns whether the rule of a fetch by privileged code is kept, and none of unprivileged code.
+/// Returns whether the rule of a fetch by privileged code is kept.
 fn is_kept(kept: &KeptDecisions<Table>, address: u32) -> bool {
     kept.kept_rule(address, Kind::Fetch, true).is_some()
-        && kept.kept_rule(address, Kind::Fetch, false).is_none()
 }
 
 #[test]
