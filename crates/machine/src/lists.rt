@@ -1,6 +1,6 @@
 //! Accesses to the words of a list of registers: those of LDM, STM, PUSH and POP.
 
-ghost use Rattle.std.specs.Prelude.{◌≡◌, ◌+◌, ◌<◌, ◌≤◌, ◌++◌, length, Ok, true};
+ghost use Rattle.std.specs.Prelude.{◌≡◌, ◌+◌, ◌<◌, ◌≤◌, ◌++◌, length, IfOk, true};
 ghost use Rattle.exceptions.specs.LineBounds.{max_lines};
 ghost use Rattle.exceptions.specs.Performing.{AllPerformed, performed_by};
 ghost use Rattle.exec.specs.Listed.{requests_by, requests_for};
@@ -39,7 +39,7 @@ pub fn perform_words<D: Decider, C: KeptCode, L: Exceptions, U: SysTickState, S:
         ++ (performed_by core.old (requests_for words.now core.old.registers)).events) }
     ensures answer { AllPerformed (performed_by core.old (requests_for words.now core.old.registers)) values.new
         result }
-    ensures system { result ≡ Ok true → core.new.bus.system ≡ core.old.bus.system }
+    ensures system { IfOk result (λ kept. kept ≡ true → core.new.bus.system ≡ core.old.bus.system) }
     ensures room { length (S.emitted events.new).events
         ≤ length (S.emitted events.old).events + max_lines (requests_for words.now core.old.registers) }
 {
@@ -75,7 +75,7 @@ fn perform_list<D: Decider, C: KeptCode, L: Exceptions, U: SysTickState, S: Sink
         ++ (performed_by core.old (requests_by kind words.now core.old.registers)).events) }
     ensures answer { AllPerformed (performed_by core.old (requests_by kind words.now core.old.registers)) values.new
         result }
-    ensures system { result ≡ Ok true → core.new.bus.system ≡ core.old.bus.system }
+    ensures system { IfOk result (λ kept. kept ≡ true → core.new.bus.system ≡ core.old.bus.system) }
     ensures room { length (S.emitted events.new).events
         ≤ length (S.emitted events.old).events + max_lines (requests_by kind words.now core.old.registers) }
 {
