@@ -1,0 +1,293 @@
+-- The steps of a run: the state after them, and their text.
+use Rattle.std.proofs.Common.{◌≡◌, ◌∙◌, ℕ, zero, suc, ◌+◌, ◌-◌, ◌<◌, ◌≤◌, ◌⊎◌, Bool, true, false, List, [], ◌∷◌, ◌++◌, Option}
+use Rattle.std.proofs.Common.{Some, None, ap, append_assoc, arith, inl, inr, is_some, refl, subst, sym, unwrap_or}
+use Rattle.std.proofs.lemmas.Bool.{cases_lt}
+use Rattle.std.proofs.lemmas.List.{append-nil}
+use Rattle.std.proofs.lemmas.List.Folds.{concat-append}
+use Rattle.std.specs.List.{concat}
+use Rattle.gdb.specs.declared.slices.Plan.{Plan}
+use Rattle.gdb.specs.declared.slices.Points.{Points}
+use Rattle.gdb.specs.declared.turns.Run.{Run}
+use Rattle.gdb.specs.Consoles.{Console, console_after, emptied, flush_text, sent_by}
+use Rattle.gdb.specs.Slices.{Flow, Sliced, after_pieces, after_step, at_rest, before_step, hit_next, one_step}
+use Rattle.gdb.specs.Slices.{reason_then, slice, step_piece, step_text, unless_ended}
+use Rattle.gdb.specs.Turns.{Turned, after_slice, after_whys, all_slices, asked, asked_or, begun, ended, ended_or}
+use Rattle.gdb.specs.Turns.{flushed, flushing, last_slice, max_slice_steps, plan_of, said, slices, steps_left}
+use Rattle.gdb.specs.Turns.{stop_packet, turn, whys, with_pieces}
+use Rattle.gdb.specs.Reasons.{reason_in_unit, reason_if, reason_or}
+use Rattle.gdb_laws.proofs.Cuts.{Cut, cut_both, cut_flush, cut_none, cut_text, packets-append}
+use Rattle.gdb_laws.specs.RunLaw.{EndsWith, MakesSteps, SaysWhy, TurnLaw, WritesText, text_of}
+use Rattle.gdb_texts.specs.Console.{console_packets}
+use Rattle.gdb_texts.specs.declared.actions.Resume.{Resume}
+use Rattle.gdb_texts.specs.declared.features.Features.{Features}
+use Rattle.gdb_texts.specs.declared.settings.Settings.{Settings}
+use Rattle.gdb_texts.specs.declared.stops.StopReason.{StopReason}
+use Rattle.gdb_texts.specs.declared.stops.StopReason.TheVariants.{Interrupted, StoppedBefore}
+use Rattle.gdb_texts.specs.declared.watchpoints.Watchpoint.{Watchpoint}
+use Rattle.gdb_texts.specs.Settings.{max_steps}
+use Rattle.gdb_texts.specs.Stops.{signal_of}
+use Rattle.platform.specs.declared.event.Event.{Event}
+use Rattle.platform.specs.declared.stop.Stop.{Stop}
+use Rattle.reference.specs.Run.{after}
+use Rattle.reference.specs.State.{State}
+use Rattle.reference.specs.Step.{step}
+use Rattle.serving.specs.Pieces.{Piece, last_state, texts}
+use Rattle.trace.specs.Selection.{steps_text}
+
+-- ---- pieces, one after another
+
+texts-append : (xs ys : List Piece) → texts (xs ++ ys) ≡ texts xs ++ texts ys
+texts-append [] ys = refl
+texts-append (x ∷ xs) ys = rw (texts-append xs ys, append_assoc) refl
+
+last-append : (s : State) (xs ys : List Piece) → last_state s (xs ++ ys) ≡ last_state (last_state s xs) ys
+last-append s [] ys = refl
+last-append s (x ∷ xs) ys = last-append x.state xs ys
+
+-- ---- steps after other steps
+
+after_more : (n : ℕ) (s : State) → after (n + 1) s ≡ (step (after n s)).state
+unfolding after
+after_more n s = let e : n + 1 ≡ suc n = omega arith in rw e refl
+
+pub after_both : (m n : ℕ) (s : State) → after (m + n) s ≡ after n (after m s)
+unfolding after
+after_both m zero s = let e : m + zero ≡ m = omega arith in rw e refl
+after_both m (suc n) s =
+    let e : m + suc n ≡ (m + n) + 1 = omega arith in
+    rw (e, after_more (m + n) s, after_both m n s) refl
+
+text_more : (text : List Event → List ℕ) (n : ℕ) (s : State)
+    → steps_text text (n + 1) s ≡ steps_text text n s ++ text (step (after n s)).events
+unfolding steps_text
+text_more text n s = let e : n + 1 ≡ suc n = omega arith in rw e refl
+
+text_both : (text : List Event → List ℕ) (m n : ℕ) (s : State)
+    → steps_text text (m + n) s ≡ steps_text text m s ++ steps_text text n (after m s)
+unfolding steps_text
+text_both text m zero s = let e : m + zero ≡ m = omega arith in rw (e, append-nil) refl
+text_both text m (suc n) s =
+    let e : m + suc n ≡ (m + n) + 1 = omega arith in
+    rw (e, text_more text (m + n) s, text_both text m n s, after_both m n s, append_assoc) refl
+
+going_both : (m n : ℕ) (s : State) → ((i : ℕ) → i < m → (after i s).stop ≡ None)
+    → ((i : ℕ) → i < n → (after i (after m s)).stop ≡ None) → (i : ℕ) → i < m + n → (after i s).stop ≡ None
+going_both m n s first next i below = elim (cases_lt i m) [
+  | inl early ↦ first i early
+  | inr late ↦ (let e : m + (i - m) ≡ i = omega (arith, late) in
+      let b : i - m < n = omega (arith, late, below) in
+      ap (λ (j : ℕ). (after j s).stop) (sym e) ∙ (ap (λ (t : State). t.stop) (after_both m (i - m) s) ∙ next (i - m) b))
+]
+
+-- ---- some pieces of a run, which goes from one place to another
+
+pub record Made (k : Settings) (f g : Flow) (pieces : List Piece) : Type 0 where
+  pub steps : ℕ
+  pub state : g.state ≡ after steps f.state
+  pub last : last_state f.state pieces ≡ g.state
+  pub going : (i : ℕ) → i < steps → (after i f.state).stop ≡ None
+  pub cut : Cut f.console (text_of k steps f.state) g.console (texts pieces)
+
+none_going : (s : State) (i : ℕ) → i < 0 → (after i s).stop ≡ None
+none_going s i below = absurd (omega (arith, below))
+
+made_none : (k : Settings) (f : Flow) → Made k f f []
+unfolding after steps_text
+made_none k f =
+    record { steps = 0; state = refl; last = refl; going = none_going f.state; cut = cut_none f.console }
+
+made_both : (k : Settings) (f g h : Flow) (ps qs : List Piece) → Made k f g ps → Made k g h qs → Made k f h (ps ++ qs)
+made_both k f g h ps qs first next = record {
+  steps = first.steps + next.steps;
+  state = next.state ∙ (ap (after next.steps) first.state ∙ sym (after_both first.steps next.steps f.state));
+  last = last-append f.state ps qs ∙ (ap (λ (s : State). last_state s qs) first.last ∙ next.last);
+  going = going_both first.steps next.steps f.state first.going
+      (subst (λ (s : State). (i : ℕ) → i < next.steps → (after i s).stop ≡ None) first.state next.going);
+  cut = rw (texts-append, text_both) (subst (λ (s : State).
+      Cut f.console (text_of k first.steps f.state ++ text_of k next.steps s) h.console (texts ps ++ texts qs))
+      first.state (cut_both f.console g.console h.console _ _ (texts ps) (texts qs) first.cut next.cut));
+}
+
+made_flush : (k : Settings) (f : Flow) → Made k f (flushed f) (flushing f ∷ [])
+unfolding after steps_text
+made_flush k f = record {
+  steps = 0;
+  state = refl;
+  last = refl;
+  going = none_going f.state;
+  cut = subst (λ (sent : List ℕ). Cut f.console [] (emptied f.console) sent) (sym (append-nil (flush_text f.console)))
+      (cut_flush f.console);
+}
+
+made_step : (p : Plan) (f : Flow) → f.state.stop ≡ None → Made p.settings f (after_step p f) (step_piece p f ∷ [])
+unfolding after steps_text
+made_step p f goes = record {
+  steps = 1;
+  state = refl;
+  last = refl;
+  going = λ i below. (let e : i ≡ 0 = omega (arith, below) in rw e goes);
+  cut = subst (λ (sent : List ℕ). Cut f.console (step_text p f.state) (console_after f.console (step_text p f.state)) sent)
+      (sym (append-nil (sent_by f.console (step_text p f.state)))) (cut_text f.console (step_text p f.state));
+}
+
+-- ---- a slice
+
+abbrev Makes : Settings → Flow → Sliced → Type 0
+Makes k f sliced = Made k f sliced.flow sliced.pieces
+
+ends_or : (k : Settings) (f : Flow) (o : Option StopReason) (events : List Event) (later : Sliced)
+    → (o ≡ None → Makes k f later) → Makes k f (unless_ended o events f later)
+ends_or k f (Some r) events later makes = made_none k f
+ends_or k f None events later makes = makes refl
+
+then_makes : (k : Settings) (f g : Flow) (ps : List Piece) (later : Sliced) → Made k f g ps → Makes k g later
+    → Makes k f (after_pieces ps later)
+then_makes k f g ps later first next = made_both k f g later.flow ps later.pieces first next
+
+goes_from : (o : Option StopReason) (stop : Option Stop) → reason_or (reason_if (is_some stop) StoppedBefore) o ≡ None
+    → stop ≡ None
+goes_from o None is = refl
+goes_from o (Some why) is = absurd cc
+
+step_makes : (p : Plan) (points : Points) (f : Flow) → f.state.stop ≡ None
+    → Makes p.settings f (one_step p points f)
+step_makes p points f goes =
+    ends_or p.settings f (hit_next points f.state) (step f.state).events _
+    (λ none. then_makes p.settings f (after_step p f) (step_piece p f ∷ [])
+    (at_rest (reason_then p f) (step f.state).events (after_step p f)) (made_step p f goes)
+    (made_none p.settings (after_step p f)))
+
+pub slice_makes : (p : Plan) (points : Points) (n : ℕ) (f : Flow) → Makes p.settings f (slice p points n f)
+unfolding slice
+slice_makes p points zero f = made_none p.settings f
+slice_makes p points (suc n) f =
+    let part : Sliced = one_step p points f in
+    let later : Sliced = unless_ended part.reason part.events part.flow (slice p points n part.flow) in
+    ends_or p.settings f (before_step p points f) [] (after_pieces part.pieces later) (λ none.
+    then_makes p.settings f part.flow part.pieces later (step_makes p points f (goes_from _ f.state.stop none))
+    (ends_or p.settings part.flow part.reason part.events (slice p points n part.flow)
+    (λ on. slice_makes p points n part.flow)))
+
+-- ---- a turn, from some place on
+
+pub record TurnFrom (k : Settings) (w : List Watchpoint) (f : Flow) (t : Turned) : Type 0 where
+  pub steps : ℕ
+  pub state : last_state f.state t.pieces ≡ after steps f.state
+  pub going : (i : ℕ) → i < steps → (after i f.state).stop ≡ None
+  pub lines : List ℕ
+  pub parts : List (List ℕ)
+  pub whole : concat parts ≡ f.console.waiting ++ (text_of k steps f.state ++ lines)
+  pub written : texts t.pieces ≡ console_packets parts ++ t.sent
+  pub ends : EndsWith k w (after steps f.state) t.outcome lines
+
+then_turn : (k : Settings) (w : List Watchpoint) (f g : Flow) (ps : List Piece) (t : Turned) → Made k f g ps
+    → TurnFrom k w g t → TurnFrom k w f (with_pieces ps t)
+then_turn k w f g ps t first next =
+    let there : after next.steps g.state ≡ after (first.steps + next.steps) f.state =
+    ap (after next.steps) first.state ∙ sym (after_both first.steps next.steps f.state) in record {
+      steps = first.steps + next.steps;
+      state = last-append f.state ps t.pieces
+          ∙ (ap (λ (s : State). last_state s t.pieces) first.last ∙ (next.state ∙ there));
+      going = going_both first.steps next.steps f.state first.going
+          (subst (λ (s : State). (i : ℕ) → i < next.steps → (after i s).stop ≡ None) first.state next.going);
+      lines = next.lines;
+      parts = first.cut.parts ++ next.parts;
+      whole = concat-append first.cut.parts next.parts
+          ∙ (ap (λ (l : List ℕ). concat first.cut.parts ++ l) next.whole
+          ∙ (sym (append_assoc (concat first.cut.parts) g.console.waiting (text_of k next.steps g.state ++ next.lines))
+          ∙ (ap (λ (l : List ℕ). l ++ (text_of k next.steps g.state ++ next.lines)) first.cut.whole
+          ∙ (append_assoc f.console.waiting (text_of k first.steps f.state) (text_of k next.steps g.state ++ next.lines)
+          ∙ ap (λ (l : List ℕ). f.console.waiting ++ l)
+          (sym (append_assoc (text_of k first.steps f.state) (text_of k next.steps g.state) next.lines)
+          ∙ ap (λ (l : List ℕ). l ++ next.lines)
+          (ap (λ (s : State). text_of k first.steps f.state ++ text_of k next.steps s) first.state
+          ∙ sym (text_both _ first.steps next.steps f.state)))))));
+      written = texts-append ps t.pieces ∙ (ap (λ (l : List ℕ). l ++ texts t.pieces) first.cut.packets
+          ∙ (ap (λ (l : List ℕ). console_packets first.cut.parts ++ l) next.written
+          ∙ (sym (append_assoc (console_packets first.cut.parts) (console_packets next.parts) t.sent)
+          ∙ ap (λ (l : List ℕ). l ++ t.sent) (sym (packets-append first.cut.parts next.parts)))));
+      ends = subst (λ (s : State). EndsWith k w s t.outcome next.lines) there next.ends;
+    }
+
+end_turn : (k : Settings) (w : List Watchpoint) (features : Features) (r : StopReason) (events : List Event) (f : Flow)
+    → TurnFrom k w f (ended k w features r events f)
+unfolding after steps_text
+end_turn k w features r events f =
+    let lines = whys k w r events f in
+    let cut = cut_both f.console (console_after f.console lines) (emptied (console_after f.console lines)) lines []
+    (sent_by f.console lines) (flush_text (console_after f.console lines)) (cut_text f.console lines)
+    (cut_flush (console_after f.console lines)) in record {
+      steps = 0;
+      state = refl;
+      going = none_going f.state;
+      lines = lines;
+      parts = cut.parts;
+      whole = sym (append-nil (concat cut.parts))
+          ∙ (cut.whole ∙ ap (λ (l : List ℕ). f.console.waiting ++ l) (append-nil lines));
+      written = rw (append-nil, sym cut.packets) (sym (append_assoc (sent_by f.console lines)
+          (flush_text (console_after f.console lines)) (stop_packet features r f.state)));
+      ends = record { reason = r; events = events; last = f.console.last; signal_is = refl; lines_are = refl };
+    }
+
+ask_turn : (k : Settings) (w : List Watchpoint) (how : Resume) (f : Flow) → f.console.waiting ≡ []
+    → TurnFrom k w f (asked how f)
+unfolding after steps_text console_packets
+ask_turn k w how f none = record {
+  steps = 0;
+  state = refl;
+  going = none_going f.state;
+  lines = [];
+  parts = [];
+  whole = sym none ∙ sym (append-nil f.console.waiting);
+  written = append-nil _;
+  ends = refl;
+}
+
+-- ---- its slices
+
+ended_turn : (k : Settings) (w : List Watchpoint) (features : Features) (sliced : Sliced) (o : Option StopReason)
+    (later : Turned) → TurnFrom k w sliced.flow later → TurnFrom k w sliced.flow (ended_or k w features sliced o later)
+ended_turn k w features sliced (Some r) later next = end_turn k w features r sliced.events sliced.flow
+ended_turn k w features sliced None later next = next
+
+asked_turn : (k : Settings) (w : List Watchpoint) (is_gdb : Bool) (features : Features) (how : Resume) (f : Flow)
+    (later : Turned) → is_gdb ≡ features.is_gdb → f.console.waiting ≡ [] → TurnFrom k w f later
+    → TurnFrom k w f (asked_or features how f later)
+asked_turn k w true features how f later is none next = rw (sym is) (ask_turn k w how f none)
+asked_turn k w false features how f later is none next = rw (sym is) next
+
+slices_turn : (p : Plan) (points : Points) (features : Features) (n rest : ℕ) (f : Flow)
+    → TurnFrom p.settings points.watchpoints f (slices p points features n rest f)
+unfolding slices
+slices_turn p points features zero rest f =
+    let sliced : Sliced = slice p points rest f in
+    then_turn p.settings points.watchpoints f sliced.flow sliced.pieces _ (slice_makes p points rest f)
+    (end_turn p.settings points.watchpoints features (unwrap_or sliced.reason Interrupted) sliced.events sliced.flow)
+slices_turn p points features (suc n) rest f =
+    let sliced : Sliced = slice p points max_slice_steps f in
+    then_turn p.settings points.watchpoints f sliced.flow sliced.pieces _ (slice_makes p points max_slice_steps f)
+    (ended_turn p.settings points.watchpoints features sliced sliced.reason _
+    (then_turn p.settings points.watchpoints sliced.flow (flushed sliced.flow) (flushing sliced.flow ∷ []) _
+    (made_flush p.settings sliced.flow)
+    (asked_turn p.settings points.watchpoints features.is_gdb features p.how (flushed sliced.flow) _ refl refl
+    (slices_turn p points features n rest (flushed sliced.flow)))))
+
+interrupted_turn : (points : Points) (k : Settings) (features : Features) (limit : ℕ) (run : Run) (s : State)
+    (b : Bool) → b ≡ run.is_interrupted
+    → TurnFrom k points.watchpoints (begun run s) (turn points k features limit run s)
+interrupted_turn points k features limit run s true is =
+    rw (sym is) (end_turn k points.watchpoints features Interrupted [] (begun run s))
+interrupted_turn points k features limit run s false is =
+    rw (sym is) (slices_turn (plan_of k limit run) points features _ _ (begun run s))
+
+pub turn_law : (points : Points) (k : Settings) (features : Features) (limit : ℕ) (run : Run) (s : State)
+    → TurnLaw points k features limit run s
+turn_law points k features limit run s =
+    let t = interrupted_turn points k features limit run s run.is_interrupted refl in record {
+      steps = t.steps;
+      state = t.state;
+      going = t.going;
+      lines = t.lines;
+      text = record { parts = t.parts; whole = t.whole; written = t.written };
+      ends = t.ends;
+    }

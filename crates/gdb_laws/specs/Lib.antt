@@ -1,0 +1,2 @@
+pub mod ReadLaw
+pub mod RunLaw

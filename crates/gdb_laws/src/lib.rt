@@ -1,0 +1,36 @@
+//! What holds of sessions of `marm gdb`, by their definitions: each law is the contract of a function that does nothing.
+#![tactic(auto)]
+
+ghost use Rattle.std.specs.Prelude.{ℕ, List};
+ghost use Rattle.gdb.specs.declared.slices.Points.{Points};
+ghost use Rattle.gdb.specs.declared.turns.Run.{Run};
+ghost use Rattle.gdb_laws.specs.ReadLaw.{ByteLaw, BytesLaw, SessionLaw};
+ghost use Rattle.gdb_laws.specs.RunLaw.{TurnLaw};
+ghost use Rattle.gdb_server.specs.Conduct.{Server};
+ghost use Rattle.gdb_texts.specs.declared.features.Features.{Features};
+ghost use Rattle.gdb_texts.specs.declared.settings.Settings.{Settings};
+ghost use Rattle.machine.specs.MachineModel.{MachineModel};
+ghost use Rattle.output.specs.Input.{Reading};
+ghost use Rattle.output.specs.Output.{Writing};
+ghost use Rattle.reference.specs.State.{State};
+
+/// A session that only reads leaves the machine: all that it writes is written in the state that the machine had, and
+/// the session's past stays.
+///
+/// - `byte`: at rest, one byte that doesn't end a packet that writes, runs, runs backwards or starts anew.
+/// - `bytes`: so do many bytes.
+/// - `session`: after a whole session that read such an input, the machine is as it was.
+pub fn reading_leaves_the_machine()
+    ensures byte { (server : Server) (s : State) (byte : ℕ) → ByteLaw server s byte }
+    ensures bytes { (server : Server) (s : State) (bytes : List ℕ) → BytesLaw server s bytes }
+    ensures session { (server : Server) (old new : MachineModel) (before after : Reading) (out out' : Writing)
+        → SessionLaw server old new before after out out' }
+{}
+
+/// Each turn of a run makes steps of the machine, and gives GDB's console the text of these steps, as a run of
+/// `marm run` with the same selection writes it, and the lines that say why the run ended, if it did. The text is cut
+/// into packets. One packet follows: the stop reply, or the question to GDB.
+pub fn a_turn_writes_its_steps()
+    ensures { (points : Points) (k : Settings) (features : Features) (limit : ℕ) (run : Run) (s : State)
+        → TurnLaw points k features limit run s }
+{}
