@@ -1,3 +1,4 @@
 mod Cuts
 mod Made
 mod OnlyReading
+mod Traces

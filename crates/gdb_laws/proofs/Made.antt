@@ -8,6 +8,8 @@ use Rattle.std.specs.List.{concat}
 use Rattle.gdb.specs.declared.slices.Plan.{Plan}
 use Rattle.gdb.specs.declared.slices.Points.{Points}
 use Rattle.gdb.specs.declared.turns.Run.{Run}
+use Rattle.gdb.specs.declared.turns.Turn.{Turn}
+use Rattle.gdb.specs.declared.turns.Turn.TheVariants.{Ends}
 use Rattle.gdb.specs.Consoles.{Console, console_after, emptied, flush_text, sent_by}
 use Rattle.gdb.specs.Slices.{Flow, Sliced, after_pieces, after_step, at_rest, before_step, hit_next, one_step}
 use Rattle.gdb.specs.Slices.{reason_then, slice, step_piece, step_text, unless_ended}
@@ -170,7 +172,8 @@ slice_makes p points (suc n) f =
 
 -- ---- a turn, from some place on
 
-pub record TurnFrom (k : Settings) (w : List Watchpoint) (f : Flow) (t : Turned) : Type 0 where
+-- `E` is what holds of its end: of the state, of how it ends, and of the lines at its end
+pub record TurnFrom (k : Settings) (E : State → Turn → List ℕ → Type 0) (f : Flow) (t : Turned) : Type 0 where
   pub steps : ℕ
   pub state : last_state f.state t.pieces ≡ after steps f.state
   pub going : (i : ℕ) → i < steps → (after i f.state).stop ≡ None
@@ -178,11 +181,11 @@ pub record TurnFrom (k : Settings) (w : List Watchpoint) (f : Flow) (t : Turned)
   pub parts : List (List ℕ)
   pub whole : concat parts ≡ f.console.waiting ++ (text_of k steps f.state ++ lines)
   pub written : texts t.pieces ≡ console_packets parts ++ t.sent
-  pub ends : EndsWith k w (after steps f.state) t.outcome lines
+  pub ends : E (after steps f.state) t.outcome lines
 
-then_turn : (k : Settings) (w : List Watchpoint) (f g : Flow) (ps : List Piece) (t : Turned) → Made k f g ps
-    → TurnFrom k w g t → TurnFrom k w f (with_pieces ps t)
-then_turn k w f g ps t first next =
+pub then_turn : (k : Settings) (E : State → Turn → List ℕ → Type 0) (f g : Flow) (ps : List Piece) (t : Turned)
+    → Made k f g ps → TurnFrom k E g t → TurnFrom k E f (with_pieces ps t)
+then_turn k E f g ps t first next =
     let there : after next.steps g.state ≡ after (first.steps + next.steps) f.state =
     ap (after next.steps) first.state ∙ sym (after_both first.steps next.steps f.state) in record {
       steps = first.steps + next.steps;
@@ -206,13 +209,14 @@ then_turn k w f g ps t first next =
           ∙ (ap (λ (l : List ℕ). console_packets first.cut.parts ++ l) next.written
           ∙ (sym (append_assoc (console_packets first.cut.parts) (console_packets next.parts) t.sent)
           ∙ ap (λ (l : List ℕ). l ++ t.sent) (sym (packets-append first.cut.parts next.parts)))));
-      ends = subst (λ (s : State). EndsWith k w s t.outcome next.lines) there next.ends;
+      ends = subst (λ (s : State). E s t.outcome next.lines) there next.ends;
     }
 
-end_turn : (k : Settings) (w : List Watchpoint) (features : Features) (r : StopReason) (events : List Event) (f : Flow)
-    → TurnFrom k w f (ended k w features r events f)
+pub end_turn : (k : Settings) (E : State → Turn → List ℕ → Type 0) (w : List Watchpoint) (features : Features)
+    (r : StopReason) (events : List Event) (f : Flow) → E f.state (Ends (signal_of r)) (whys k w r events f)
+    → TurnFrom k E f (ended k w features r events f)
 unfolding after steps_text
-end_turn k w features r events f =
+end_turn k E w features r events f ends =
     let lines = whys k w r events f in
     let cut = cut_both f.console (console_after f.console lines) (emptied (console_after f.console lines)) lines []
     (sent_by f.console lines) (flush_text (console_after f.console lines)) (cut_text f.console lines)
@@ -226,13 +230,13 @@ end_turn k w features r events f =
           ∙ (cut.whole ∙ ap (λ (l : List ℕ). f.console.waiting ++ l) (append-nil lines));
       written = rw (append-nil, sym cut.packets) (sym (append_assoc (sent_by f.console lines)
           (flush_text (console_after f.console lines)) (stop_packet features r f.state)));
-      ends = record { reason = r; events = events; last = f.console.last; signal_is = refl; lines_are = refl };
+      ends = ends;
     }
 
-ask_turn : (k : Settings) (w : List Watchpoint) (how : Resume) (f : Flow) → f.console.waiting ≡ []
-    → TurnFrom k w f (asked how f)
+pub ask_turn : (k : Settings) (E : State → Turn → List ℕ → Type 0) (how : Resume) (f : Flow)
+    → f.console.waiting ≡ [] → E f.state (asked how f).outcome [] → TurnFrom k E f (asked how f)
 unfolding after steps_text console_packets
-ask_turn k w how f none = record {
+ask_turn k E how f none ends = record {
   steps = 0;
   state = refl;
   going = none_going f.state;
@@ -240,43 +244,62 @@ ask_turn k w how f none = record {
   parts = [];
   whole = sym none ∙ sym (append-nil f.console.waiting);
   written = append-nil _;
-  ends = refl;
+  ends = ends;
 }
 
 -- ---- its slices
 
-ended_turn : (k : Settings) (w : List Watchpoint) (features : Features) (sliced : Sliced) (o : Option StopReason)
-    (later : Turned) → TurnFrom k w sliced.flow later → TurnFrom k w sliced.flow (ended_or k w features sliced o later)
-ended_turn k w features sliced (Some r) later next = end_turn k w features r sliced.events sliced.flow
-ended_turn k w features sliced None later next = next
+-- a run that goes on after a slice
+pub on_turn : (k : Settings) (E : State → Turn → List ℕ → Type 0) (is_gdb : Bool) (features : Features) (how : Resume)
+    (f : Flow) (later : Turned) → is_gdb ≡ features.is_gdb → E f.state (asked how (flushed f)).outcome []
+    → TurnFrom k E (flushed f) later
+    → TurnFrom k E f (with_pieces (flushing f ∷ []) (asked_or features how (flushed f) later))
+on_turn k E is_gdb features how f later is ends next =
+    then_turn k E f (flushed f) (flushing f ∷ []) _ (made_flush k f) (goes is_gdb is)
+  where
+    goes : (b : Bool) → b ≡ features.is_gdb → TurnFrom k E (flushed f) (asked_or features how (flushed f) later)
+    goes true gdb = rw (sym gdb) (ask_turn k E how (flushed f) refl ends)
+    goes false gdb = rw (sym gdb) next
 
-asked_turn : (k : Settings) (w : List Watchpoint) (is_gdb : Bool) (features : Features) (how : Resume) (f : Flow)
-    (later : Turned) → is_gdb ≡ features.is_gdb → f.console.waiting ≡ [] → TurnFrom k w f later
-    → TurnFrom k w f (asked_or features how f later)
-asked_turn k w true features how f later is none next = rw (sym is) (ask_turn k w how f none)
-asked_turn k w false features how f later is none next = rw (sym is) next
+-- why it ended, by any reason
+says_why : (k : Settings) (w : List Watchpoint) (r : StopReason) (events : List Event) (f : Flow)
+    → EndsWith k w f.state (Ends (signal_of r)) (whys k w r events f)
+says_why k w r events f =
+    record { reason = r; events = events; last = f.console.last; signal_is = refl; lines_are = refl }
+
+ended_turn : (p : Plan) (w : List Watchpoint) (features : Features) (sliced : Sliced) (o : Option StopReason)
+    (later : Turned) → TurnFrom p.settings (EndsWith p.settings w) (flushed sliced.flow) later
+    → TurnFrom p.settings (EndsWith p.settings w) sliced.flow (ended_or p.settings w features sliced o
+    (with_pieces (flushing sliced.flow ∷ []) (asked_or features p.how (flushed sliced.flow) later)))
+ended_turn p w features sliced (Some r) later next =
+    end_turn p.settings (EndsWith p.settings w) w features r sliced.events sliced.flow
+    (says_why p.settings w r sliced.events sliced.flow)
+ended_turn p w features sliced None later next =
+    on_turn p.settings (EndsWith p.settings w) features.is_gdb features p.how sliced.flow later refl refl next
 
 slices_turn : (p : Plan) (points : Points) (features : Features) (n rest : ℕ) (f : Flow)
-    → TurnFrom p.settings points.watchpoints f (slices p points features n rest f)
+    → TurnFrom p.settings (EndsWith p.settings points.watchpoints) f (slices p points features n rest f)
 unfolding slices
 slices_turn p points features zero rest f =
     let sliced : Sliced = slice p points rest f in
-    then_turn p.settings points.watchpoints f sliced.flow sliced.pieces _ (slice_makes p points rest f)
-    (end_turn p.settings points.watchpoints features (unwrap_or sliced.reason Interrupted) sliced.events sliced.flow)
+    let r : StopReason = unwrap_or sliced.reason Interrupted in
+    then_turn p.settings (EndsWith p.settings points.watchpoints) f sliced.flow sliced.pieces _
+    (slice_makes p points rest f)
+    (end_turn p.settings (EndsWith p.settings points.watchpoints) points.watchpoints features r sliced.events
+    sliced.flow (says_why p.settings points.watchpoints r sliced.events sliced.flow))
 slices_turn p points features (suc n) rest f =
     let sliced : Sliced = slice p points max_slice_steps f in
-    then_turn p.settings points.watchpoints f sliced.flow sliced.pieces _ (slice_makes p points max_slice_steps f)
-    (ended_turn p.settings points.watchpoints features sliced sliced.reason _
-    (then_turn p.settings points.watchpoints sliced.flow (flushed sliced.flow) (flushing sliced.flow ∷ []) _
-    (made_flush p.settings sliced.flow)
-    (asked_turn p.settings points.watchpoints features.is_gdb features p.how (flushed sliced.flow) _ refl refl
-    (slices_turn p points features n rest (flushed sliced.flow)))))
+    then_turn p.settings (EndsWith p.settings points.watchpoints) f sliced.flow sliced.pieces _
+    (slice_makes p points max_slice_steps f)
+    (ended_turn p points.watchpoints features sliced sliced.reason _
+    (slices_turn p points features n rest (flushed sliced.flow)))
 
 interrupted_turn : (points : Points) (k : Settings) (features : Features) (limit : ℕ) (run : Run) (s : State)
     (b : Bool) → b ≡ run.is_interrupted
-    → TurnFrom k points.watchpoints (begun run s) (turn points k features limit run s)
+    → TurnFrom k (EndsWith k points.watchpoints) (begun run s) (turn points k features limit run s)
 interrupted_turn points k features limit run s true is =
-    rw (sym is) (end_turn k points.watchpoints features Interrupted [] (begun run s))
+    rw (sym is) (end_turn k (EndsWith k points.watchpoints) points.watchpoints features Interrupted [] (begun run s)
+    (says_why k points.watchpoints Interrupted [] (begun run s)))
 interrupted_turn points k features limit run s false is =
     rw (sym is) (slices_turn (plan_of k limit run) points features _ _ (begun run s))
 

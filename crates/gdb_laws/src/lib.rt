@@ -5,7 +5,7 @@ ghost use Rattle.std.specs.Prelude.{ℕ, List};
 ghost use Rattle.gdb.specs.declared.slices.Points.{Points};
 ghost use Rattle.gdb.specs.declared.turns.Run.{Run};
 ghost use Rattle.gdb_laws.specs.ReadLaw.{ByteLaw, BytesLaw, SessionLaw};
-ghost use Rattle.gdb_laws.specs.RunLaw.{TurnLaw};
+ghost use Rattle.gdb_laws.specs.RunLaw.{TraceLaw, TurnLaw};
 ghost use Rattle.gdb_server.specs.Conduct.{Server};
 ghost use Rattle.gdb_texts.specs.declared.features.Features.{Features};
 ghost use Rattle.gdb_texts.specs.declared.settings.Settings.{Settings};
@@ -33,4 +33,12 @@ pub fn reading_leaves_the_machine()
 pub fn a_turn_writes_its_steps()
     ensures { (points : Points) (k : Settings) (features : Features) (limit : ℕ) (run : Run) (s : State)
         → TurnLaw points k features limit run s }
+{}
+
+/// With `monitor trace all`, and no breakpoint, no watchpoint and no `monitor stop ..`, a turn of `c` gives GDB's console
+/// what `marm run --trace all` writes of as many steps: the whole trace to the line of the stop, or, where the run was
+/// interrupted, its budget is made or GDB is asked, the trace without that line.
+pub fn continue_writes_the_trace()
+    ensures { (points : Points) (k : Settings) (features : Features) (limit : ℕ) (run : Run) (s : State)
+        → TraceLaw points k features limit run s }
 {}
