@@ -2,3 +2,4 @@ mod Cuts
 mod Made
 mod OnlyReading
 mod Traces
+mod Units

@@ -42,7 +42,7 @@ texts-append : (xs ys : List Piece) → texts (xs ++ ys) ≡ texts xs ++ texts y
 texts-append [] ys = refl
 texts-append (x ∷ xs) ys = rw (texts-append xs ys, append_assoc) refl
 
-last-append : (s : State) (xs ys : List Piece) → last_state s (xs ++ ys) ≡ last_state (last_state s xs) ys
+pub last-append : (s : State) (xs ys : List Piece) → last_state s (xs ++ ys) ≡ last_state (last_state s xs) ys
 last-append s [] ys = refl
 last-append s (x ∷ xs) ys = last-append x.state xs ys
 
@@ -72,7 +72,7 @@ text_both text m (suc n) s =
     let e : m + suc n ≡ (m + n) + 1 = omega arith in
     rw (e, text_more text (m + n) s, text_both text m n s, after_both m n s, append_assoc) refl
 
-going_both : (m n : ℕ) (s : State) → ((i : ℕ) → i < m → (after i s).stop ≡ None)
+pub going_both : (m n : ℕ) (s : State) → ((i : ℕ) → i < m → (after i s).stop ≡ None)
     → ((i : ℕ) → i < n → (after i (after m s)).stop ≡ None) → (i : ℕ) → i < m + n → (after i s).stop ≡ None
 going_both m n s first next i below = elim (cases_lt i m) [
   | inl early ↦ first i early
@@ -81,39 +81,36 @@ going_both m n s first next i below = elim (cases_lt i m) [
       ap (λ (j : ℕ). (after j s).stop) (sym e) ∙ (ap (λ (t : State). t.stop) (after_both m (i - m) s) ∙ next (i - m) b))
 ]
 
--- ---- some pieces of a run, which goes from one place to another
+-- ---- some pieces of a run, which goes n steps from one place to another
 
-pub record Made (k : Settings) (f g : Flow) (pieces : List Piece) : Type 0 where
-  pub steps : ℕ
-  pub state : g.state ≡ after steps f.state
+pub record Made (k : Settings) (n : ℕ) (f g : Flow) (pieces : List Piece) : Type 0 where
+  pub state : g.state ≡ after n f.state
   pub last : last_state f.state pieces ≡ g.state
-  pub going : (i : ℕ) → i < steps → (after i f.state).stop ≡ None
-  pub cut : Cut f.console (text_of k steps f.state) g.console (texts pieces)
+  pub going : (i : ℕ) → i < n → (after i f.state).stop ≡ None
+  pub cut : Cut f.console (text_of k n f.state) g.console (texts pieces)
 
 none_going : (s : State) (i : ℕ) → i < 0 → (after i s).stop ≡ None
 none_going s i below = absurd (omega (arith, below))
 
-made_none : (k : Settings) (f : Flow) → Made k f f []
+pub made_none : (k : Settings) (f : Flow) → Made k 0 f f []
 unfolding after steps_text
-made_none k f =
-    record { steps = 0; state = refl; last = refl; going = none_going f.state; cut = cut_none f.console }
+made_none k f = record { state = refl; last = refl; going = none_going f.state; cut = cut_none f.console }
 
-made_both : (k : Settings) (f g h : Flow) (ps qs : List Piece) → Made k f g ps → Made k g h qs → Made k f h (ps ++ qs)
-made_both k f g h ps qs first next = record {
-  steps = first.steps + next.steps;
-  state = next.state ∙ (ap (after next.steps) first.state ∙ sym (after_both first.steps next.steps f.state));
+pub made_both : (k : Settings) (m n : ℕ) (f g h : Flow) (ps qs : List Piece) → Made k m f g ps → Made k n g h qs
+    → Made k (m + n) f h (ps ++ qs)
+made_both k m n f g h ps qs first next = record {
+  state = next.state ∙ (ap (after n) first.state ∙ sym (after_both m n f.state));
   last = last-append f.state ps qs ∙ (ap (λ (s : State). last_state s qs) first.last ∙ next.last);
-  going = going_both first.steps next.steps f.state first.going
-      (subst (λ (s : State). (i : ℕ) → i < next.steps → (after i s).stop ≡ None) first.state next.going);
+  going = going_both m n f.state first.going
+      (subst (λ (s : State). (i : ℕ) → i < n → (after i s).stop ≡ None) first.state next.going);
   cut = rw (texts-append, text_both) (subst (λ (s : State).
-      Cut f.console (text_of k first.steps f.state ++ text_of k next.steps s) h.console (texts ps ++ texts qs))
+      Cut f.console (text_of k m f.state ++ text_of k n s) h.console (texts ps ++ texts qs))
       first.state (cut_both f.console g.console h.console _ _ (texts ps) (texts qs) first.cut next.cut));
 }
 
-made_flush : (k : Settings) (f : Flow) → Made k f (flushed f) (flushing f ∷ [])
+made_flush : (k : Settings) (f : Flow) → Made k 0 f (flushed f) (flushing f ∷ [])
 unfolding after steps_text
 made_flush k f = record {
-  steps = 0;
   state = refl;
   last = refl;
   going = none_going f.state;
@@ -121,33 +118,42 @@ made_flush k f = record {
       (cut_flush f.console);
 }
 
-made_step : (p : Plan) (f : Flow) → f.state.stop ≡ None → Made p.settings f (after_step p f) (step_piece p f ∷ [])
+pub made_step : (p : Plan) (f : Flow) → f.state.stop ≡ None
+    → Made p.settings 1 f (after_step p f) (step_piece p f ∷ [])
 unfolding after steps_text
 made_step p f goes = record {
-  steps = 1;
   state = refl;
   last = refl;
   going = λ i below. (let e : i ≡ 0 = omega (arith, below) in rw e goes);
-  cut = subst (λ (sent : List ℕ). Cut f.console (step_text p f.state) (console_after f.console (step_text p f.state)) sent)
+  cut = subst (λ (sent : List ℕ).
+      Cut f.console (step_text p f.state) (console_after f.console (step_text p f.state)) sent)
       (sym (append-nil (sent_by f.console (step_text p f.state)))) (cut_text f.console (step_text p f.state));
 }
 
 -- ---- a slice
 
-abbrev Makes : Settings → Flow → Sliced → Type 0
-Makes k f sliced = Made k f sliced.flow sliced.pieces
+pub record Makes (k : Settings) (f : Flow) (sliced : Sliced) : Type 0 where
+  pub steps : ℕ
+  pub made : Made k steps f sliced.flow sliced.pieces
+
+rests : (k : Settings) (f : Flow) (o : Option StopReason) (events : List Event) → Makes k f (at_rest o events f)
+rests k f o events = record { steps = 0; made = made_none k f }
 
 ends_or : (k : Settings) (f : Flow) (o : Option StopReason) (events : List Event) (later : Sliced)
     → (o ≡ None → Makes k f later) → Makes k f (unless_ended o events f later)
-ends_or k f (Some r) events later makes = made_none k f
+ends_or k f (Some r) events later makes = rests k f (Some r) events
 ends_or k f None events later makes = makes refl
 
-then_makes : (k : Settings) (f g : Flow) (ps : List Piece) (later : Sliced) → Made k f g ps → Makes k g later
+then_makes : (k : Settings) (n : ℕ) (f g : Flow) (ps : List Piece) (later : Sliced) → Made k n f g ps → Makes k g later
     → Makes k f (after_pieces ps later)
-then_makes k f g ps later first next = made_both k f g later.flow ps later.pieces first next
+then_makes k n f g ps later first next = record {
+  steps = n + next.steps;
+  made = made_both k n next.steps f g later.flow ps later.pieces first next.made;
+}
 
-goes_from : (o : Option StopReason) (stop : Option Stop) → reason_or (reason_if (is_some stop) StoppedBefore) o ≡ None
-    → stop ≡ None
+-- a machine that has stopped makes no step
+pub goes_from : (o : Option StopReason) (stop : Option Stop)
+    → reason_or (reason_if (is_some stop) StoppedBefore) o ≡ None → stop ≡ None
 goes_from o None is = refl
 goes_from o (Some why) is = absurd cc
 
@@ -155,18 +161,19 @@ step_makes : (p : Plan) (points : Points) (f : Flow) → f.state.stop ≡ None
     → Makes p.settings f (one_step p points f)
 step_makes p points f goes =
     ends_or p.settings f (hit_next points f.state) (step f.state).events _
-    (λ none. then_makes p.settings f (after_step p f) (step_piece p f ∷ [])
+    (λ none. then_makes p.settings 1 f (after_step p f) (step_piece p f ∷ [])
     (at_rest (reason_then p f) (step f.state).events (after_step p f)) (made_step p f goes)
-    (made_none p.settings (after_step p f)))
+    (rests p.settings (after_step p f) (reason_then p f) (step f.state).events))
 
 pub slice_makes : (p : Plan) (points : Points) (n : ℕ) (f : Flow) → Makes p.settings f (slice p points n f)
 unfolding slice
-slice_makes p points zero f = made_none p.settings f
+slice_makes p points zero f = rests p.settings f None []
 slice_makes p points (suc n) f =
     let part : Sliced = one_step p points f in
     let later : Sliced = unless_ended part.reason part.events part.flow (slice p points n part.flow) in
     ends_or p.settings f (before_step p points f) [] (after_pieces part.pieces later) (λ none.
-    then_makes p.settings f part.flow part.pieces later (step_makes p points f (goes_from _ f.state.stop none))
+    let first = step_makes p points f (goes_from _ f.state.stop none) in
+    then_makes p.settings first.steps f part.flow part.pieces later first.made
     (ends_or p.settings part.flow part.reason part.events (slice p points n part.flow)
     (λ on. slice_makes p points n part.flow)))
 
@@ -183,15 +190,15 @@ pub record TurnFrom (k : Settings) (E : State → Turn → List ℕ → Type 0) 
   pub written : texts t.pieces ≡ console_packets parts ++ t.sent
   pub ends : E (after steps f.state) t.outcome lines
 
-pub then_turn : (k : Settings) (E : State → Turn → List ℕ → Type 0) (f g : Flow) (ps : List Piece) (t : Turned)
-    → Made k f g ps → TurnFrom k E g t → TurnFrom k E f (with_pieces ps t)
-then_turn k E f g ps t first next =
-    let there : after next.steps g.state ≡ after (first.steps + next.steps) f.state =
-    ap (after next.steps) first.state ∙ sym (after_both first.steps next.steps f.state) in record {
-      steps = first.steps + next.steps;
+pub then_turn : (k : Settings) (E : State → Turn → List ℕ → Type 0) (n : ℕ) (f g : Flow) (ps : List Piece) (t : Turned)
+    → Made k n f g ps → TurnFrom k E g t → TurnFrom k E f (with_pieces ps t)
+then_turn k E n f g ps t first next =
+    let there : after next.steps g.state ≡ after (n + next.steps) f.state =
+    ap (after next.steps) first.state ∙ sym (after_both n next.steps f.state) in record {
+      steps = n + next.steps;
       state = last-append f.state ps t.pieces
           ∙ (ap (λ (s : State). last_state s t.pieces) first.last ∙ (next.state ∙ there));
-      going = going_both first.steps next.steps f.state first.going
+      going = going_both n next.steps f.state first.going
           (subst (λ (s : State). (i : ℕ) → i < next.steps → (after i s).stop ≡ None) first.state next.going);
       lines = next.lines;
       parts = first.cut.parts ++ next.parts;
@@ -199,18 +206,25 @@ then_turn k E f g ps t first next =
           ∙ (ap (λ (l : List ℕ). concat first.cut.parts ++ l) next.whole
           ∙ (sym (append_assoc (concat first.cut.parts) g.console.waiting (text_of k next.steps g.state ++ next.lines))
           ∙ (ap (λ (l : List ℕ). l ++ (text_of k next.steps g.state ++ next.lines)) first.cut.whole
-          ∙ (append_assoc f.console.waiting (text_of k first.steps f.state) (text_of k next.steps g.state ++ next.lines)
+          ∙ (append_assoc f.console.waiting (text_of k n f.state) (text_of k next.steps g.state ++ next.lines)
           ∙ ap (λ (l : List ℕ). f.console.waiting ++ l)
-          (sym (append_assoc (text_of k first.steps f.state) (text_of k next.steps g.state) next.lines)
+          (sym (append_assoc (text_of k n f.state) (text_of k next.steps g.state) next.lines)
           ∙ ap (λ (l : List ℕ). l ++ next.lines)
-          (ap (λ (s : State). text_of k first.steps f.state ++ text_of k next.steps s) first.state
-          ∙ sym (text_both _ first.steps next.steps f.state)))))));
+          (ap (λ (s : State). text_of k n f.state ++ text_of k next.steps s) first.state
+          ∙ sym (text_both _ n next.steps f.state)))))));
       written = texts-append ps t.pieces ∙ (ap (λ (l : List ℕ). l ++ texts t.pieces) first.cut.packets
           ∙ (ap (λ (l : List ℕ). console_packets first.cut.parts ++ l) next.written
           ∙ (sym (append_assoc (console_packets first.cut.parts) (console_packets next.parts) t.sent)
           ∙ ap (λ (l : List ℕ). l ++ t.sent) (sym (packets-append first.cut.parts next.parts)))));
       ends = subst (λ (s : State). E s t.outcome next.lines) there next.ends;
     }
+
+pub after_sliced : (p : Plan) (points : Points) (E : State → Turn → List ℕ → Type 0) (n : ℕ) (f : Flow) (t : Turned)
+    → TurnFrom p.settings E (slice p points n f).flow t
+    → TurnFrom p.settings E f (with_pieces (slice p points n f).pieces t)
+after_sliced p points E n f t next =
+    let makes = slice_makes p points n f in
+    then_turn p.settings E makes.steps f (slice p points n f).flow (slice p points n f).pieces t makes.made next
 
 pub end_turn : (k : Settings) (E : State → Turn → List ℕ → Type 0) (w : List Watchpoint) (features : Features)
     (r : StopReason) (events : List Event) (f : Flow) → E f.state (Ends (signal_of r)) (whys k w r events f)
@@ -255,7 +269,7 @@ pub on_turn : (k : Settings) (E : State → Turn → List ℕ → Type 0) (is_gd
     → TurnFrom k E (flushed f) later
     → TurnFrom k E f (with_pieces (flushing f ∷ []) (asked_or features how (flushed f) later))
 on_turn k E is_gdb features how f later is ends next =
-    then_turn k E f (flushed f) (flushing f ∷ []) _ (made_flush k f) (goes is_gdb is)
+    then_turn k E 0 f (flushed f) (flushing f ∷ []) _ (made_flush k f) (goes is_gdb is)
   where
     goes : (b : Bool) → b ≡ features.is_gdb → TurnFrom k E (flushed f) (asked_or features how (flushed f) later)
     goes true gdb = rw (sym gdb) (ask_turn k E how (flushed f) refl ends)
@@ -283,14 +297,12 @@ unfolding slices
 slices_turn p points features zero rest f =
     let sliced : Sliced = slice p points rest f in
     let r : StopReason = unwrap_or sliced.reason Interrupted in
-    then_turn p.settings (EndsWith p.settings points.watchpoints) f sliced.flow sliced.pieces _
-    (slice_makes p points rest f)
+    after_sliced p points (EndsWith p.settings points.watchpoints) rest f _
     (end_turn p.settings (EndsWith p.settings points.watchpoints) points.watchpoints features r sliced.events
     sliced.flow (says_why p.settings points.watchpoints r sliced.events sliced.flow))
 slices_turn p points features (suc n) rest f =
     let sliced : Sliced = slice p points max_slice_steps f in
-    then_turn p.settings (EndsWith p.settings points.watchpoints) f sliced.flow sliced.pieces _
-    (slice_makes p points max_slice_steps f)
+    after_sliced p points (EndsWith p.settings points.watchpoints) max_slice_steps f _
     (ended_turn p points.watchpoints features sliced sliced.reason _
     (slices_turn p points features n rest (flushed sliced.flow)))
 

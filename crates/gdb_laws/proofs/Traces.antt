@@ -23,7 +23,7 @@ use Rattle.gdb.specs.Slices.{reason_then, returns_then, slice, step_piece, step_
 use Rattle.gdb.specs.Turns.{Turned, asked, asked_or, begun, ended, ended_or, flushed, flushing, max_slice_steps}
 use Rattle.gdb.specs.Turns.{plan_of, slices, turn, whys, with_pieces}
 use Rattle.gdb.specs.Whys.{has_line, line_begun, needs_line, stop_text, stop_with_line}
-use Rattle.gdb_laws.proofs.Made.{TurnFrom, end_turn, on_turn, slice_makes, then_turn}
+use Rattle.gdb_laws.proofs.Made.{TurnFrom, after_sliced, end_turn, on_turn}
 use Rattle.gdb_laws.specs.RunLaw.{Continues, IsTraceOf, TraceLaw, TracesAll, WritesTrace}
 use Rattle.gdb_texts.specs.declared.actions.Resume.TheVariants.{Continue}
 use Rattle.gdb_texts.specs.declared.features.Features.{Features}
@@ -259,15 +259,13 @@ module _ (limit : ℕ) (over : Bool) (budget : Option ℕ) (features : Features)
   slices_trace zero rest f ends =
       let sliced : Sliced = slice (goes_on limit over budget) no_points rest f in
       let stops = slice_stops limit over budget rest f ends in
-      then_turn (traced over budget) AtEnd f sliced.flow sliced.pieces _
-      (slice_makes (goes_on limit over budget) no_points rest f)
+      after_sliced (goes_on limit over budget) no_points AtEnd rest f _
       (end_turn (traced over budget) AtEnd [] features (unwrap_or sliced.reason reason.Interrupted) sliced.events
       sliced.flow (last_end over budget features sliced.reason sliced.events sliced.flow stops.why stops.line))
   slices_trace (suc n) rest f ends =
       let sliced : Sliced = slice (goes_on limit over budget) no_points max_slice_steps f in
       let stops = slice_stops limit over budget max_slice_steps f ends in
-      then_turn (traced over budget) AtEnd f sliced.flow sliced.pieces _
-      (slice_makes (goes_on limit over budget) no_points max_slice_steps f)
+      after_sliced (goes_on limit over budget) no_points AtEnd max_slice_steps f _
       (ended_trace sliced sliced.reason _ stops.why stops.line
       (slices_trace n rest (flushed sliced.flow) stops.line))
 

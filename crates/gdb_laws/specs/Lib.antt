@@ -1,2 +1,3 @@
+pub mod BackLaw
 pub mod ReadLaw
 pub mod RunLaw
