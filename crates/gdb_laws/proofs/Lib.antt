@@ -1,3 +1,4 @@
+mod Backs
 mod Cuts
 mod Made
 mod OnlyReading

@@ -1,8 +1,9 @@
 -- A run of `s` makes at most one unit: no step but its last one ends a unit.
-use Rattle.std.proofs.Common.{◌≡◌, ◌∙◌, ◌⊎◌, ℕ, zero, suc, ◌+◌, ◌-◌, ◌<◌, ◌≤◌, Bool, true, false, not, ◌&&◌, ◌||◌, List}
+use Rattle.std.proofs.Common.{◌≡◌, ◌∙◌, ◌⊎◌, ℕ, zero, suc, ◌+◌, ◌-◌, ◌<◌, ◌≤◌, nat_le, Bool, true, false, not, ◌&&◌, ◌||◌, List}
 use Rattle.std.proofs.Common.{[], ◌∷◌, ◌++◌, Option, Some, None, ap, arith, if◌then◌else◌, inl, inr, is_some, refl, subst}
 use Rattle.std.proofs.Common.{sym, unwrap_or}
 use Rattle.std.proofs.lemmas.Bool.{cases_lt}
+use Rattle.std.proofs.lemmas.Bool.Decides.{nat_tests}
 use Rattle.gdb.specs.declared.over.ReturnPoint.{ReturnPoint}
 use Rattle.gdb.specs.declared.slices.Plan.{Plan}
 use Rattle.gdb.specs.declared.slices.Points.{Points}
@@ -16,6 +17,7 @@ use Rattle.gdb.specs.Turns.{Turned, asked, asked_or, begun, ended, ended_or, flu
 use Rattle.gdb.specs.Turns.{plan_of, slices, turn, with_pieces}
 use Rattle.gdb_laws.proofs.Made.{Made, after_both, going_both, goes_from, last-append, made_both, made_none}
 use Rattle.gdb_laws.proofs.Made.{made_step}
+use Rattle.gdb_past.specs.Places.{tick_of}
 use Rattle.gdb_texts.specs.declared.actions.Resume.{Resume}
 use Rattle.gdb_texts.specs.declared.actions.Resume.TheVariants.{Step}
 use Rattle.gdb_texts.specs.declared.features.Features.{Features}
@@ -24,6 +26,7 @@ use Rattle.gdb_texts.specs.declared.stops.StopReason.{StopReason}
 use Rattle.gdb_texts.specs.declared.stops.StopReason.TheVariants as reason
 use Rattle.gdb_texts.specs.declared.watchpoints.Watchpoint.{Watchpoint}
 use Rattle.platform.specs.declared.event.Event.{Event}
+use Rattle.platform.specs.declared.stop.Stop.TheVariants.{StepLimit}
 use Rattle.reference.specs.Run.{after}
 use Rattle.reference.specs.State.{State}
 use Rattle.reference.specs.Step.{step}
@@ -59,6 +62,35 @@ last_both s m n first next i below = elim (cases_lt i m) [
       ap (λ (j : ℕ). ends_unit (after j s)) (sym e) ∙ (ap ends_unit (after_both m (i - m) s) ∙ next (i - m) b))
 ]
 
+-- the clock isn't at the limit before any of n steps from a state
+abbrev pub IsEarly : ℕ → State → ℕ → Type 0
+IsEarly limit s n = (i : ℕ) → i < n → tick_of (after i s) < limit
+
+early_none : (limit : ℕ) (s : State) → IsEarly limit s 0
+early_none limit s i below = absurd (omega (arith, below))
+
+early_both : (limit : ℕ) (s : State) (m n : ℕ) → IsEarly limit s m → IsEarly limit (after m s) n
+    → IsEarly limit s (m + n)
+early_both limit s m n first next i below = elim (cases_lt i m) [
+  | inl early ↦ first i early
+  | inr late ↦ (let e : m + (i - m) ≡ i = omega (arith, late) in
+      let b : i - m < n = omega (arith, late, below) in
+      subst (λ (x : ℕ). x < limit) (ap tick_of (sym (after_both m (i - m) s)) ∙ ap (λ (j : ℕ). tick_of (after j s)) e)
+      (next (i - m) b))
+]
+
+-- a step is made where it isn't
+early_from : (limit tick : ℕ) (a b : Option StopReason)
+    → reason_or a (reason_or (reason_if (nat_le limit tick) (reason.Stopped StepLimit)) b) ≡ None → tick < limit
+early_from limit tick a b is =
+    let before : nat_le limit tick ≡ false = none_if a (nat_le limit tick) b is in grind (arith, nat_tests)
+  where
+    none_if : (c : Option StopReason) (late : Bool) (d : Option StopReason)
+        → reason_or c (reason_or (reason_if late (reason.Stopped StepLimit)) d) ≡ None → late ≡ false
+    none_if (Some r) late d wrong = absurd cc
+    none_if None true d wrong = absurd cc
+    none_if None false d right = refl
+
 -- ---- a step that ends a unit ends the run
 
 none_done : (a b : Option StopReason) (away done : Bool) → away ≡ false
@@ -79,41 +111,46 @@ step_plan limit k = record { how = Step; limit = limit; settings = k }
 -- ---- a slice
 
 -- the steps of a run of `s` up to a place: no step but the last one ends a unit, and that only where it ends the run
-pub record Units (k : Settings) (f : Flow) (sliced : Sliced) : Type 0 where
+pub record Units (limit : ℕ) (k : Settings) (f : Flow) (sliced : Sliced) : Type 0 where
   pub steps : ℕ
+  pub early : IsEarly limit f.state steps
   pub made : Made k steps f sliced.flow sliced.pieces
   pub last : OnlyLastEnds f.state steps
   pub none : sliced.reason ≡ None → NoneEnds f.state steps
   pub returns : sliced.flow.returns_to ≡ None
 
-units_none : (k : Settings) (f : Flow) (o : Option StopReason) (es : List Event) → f.returns_to ≡ None
-    → Units k f (at_rest o es f)
-units_none k f o es returns = record {
+units_none : (limit : ℕ) (k : Settings) (f : Flow) (o : Option StopReason) (es : List Event) → f.returns_to ≡ None
+    → Units limit k f (at_rest o es f)
+units_none limit k f o es returns = record {
   steps = 0;
+  early = early_none limit f.state;
   made = made_none k f;
   last = last_only f.state 0 (ends_none f.state);
   none = λ is. ends_none f.state;
   returns = returns;
 }
 
-units_or : (k : Settings) (f : Flow) (o : Option StopReason) (es : List Event) (later : Sliced)
-    → f.returns_to ≡ None → (o ≡ None → Units k f later) → Units k f (unless_ended o es f later)
-units_or k f (Some r) es later returns next = units_none k f (Some r) es returns
-units_or k f None es later returns next = next refl
+units_or : (limit : ℕ) (k : Settings) (f : Flow) (o : Option StopReason) (es : List Event) (later : Sliced)
+    → f.returns_to ≡ None → (o ≡ None → Units limit k f later) → Units limit k f (unless_ended o es f later)
+units_or limit k f (Some r) es later returns next = units_none limit k f (Some r) es returns
+units_or limit k f None es later returns next = next refl
 
 -- after a part that ended no unit, or ended the run
-then_units : (k : Settings) (f : Flow) (part later : Sliced) (o : Option StopReason) → part.reason ≡ o
-    → Units k f part → Units k part.flow later
-    → Units k f (after_pieces part.pieces (unless_ended o part.events part.flow later))
-then_units k f part later (Some r) is first next = record {
+then_units : (limit : ℕ) (k : Settings) (f : Flow) (part later : Sliced) (o : Option StopReason) → part.reason ≡ o
+    → Units limit k f part → Units limit k part.flow later
+    → Units limit k f (after_pieces part.pieces (unless_ended o part.events part.flow later))
+then_units limit k f part later (Some r) is first next = record {
   steps = first.steps + 0;
+  early = (let e : first.steps + 0 ≡ first.steps = omega arith in rw e first.early);
   made = made_both k first.steps 0 f part.flow part.flow part.pieces [] first.made (made_none k part.flow);
   last = (let e : first.steps + 0 ≡ first.steps = omega arith in rw e first.last);
   none = λ wrong. absurd cc;
   returns = first.returns;
 }
-then_units k f part later None is first next = record {
+then_units limit k f part later None is first next = record {
   steps = first.steps + next.steps;
+  early = early_both limit f.state first.steps next.steps first.early
+      (subst (λ (s : State). IsEarly limit s next.steps) first.made.state next.early);
   made = made_both k first.steps next.steps f part.flow later.flow part.pieces later.pieces first.made next.made;
   last = last_both f.state first.steps next.steps (first.none is)
       (subst (λ (s : State). OnlyLastEnds s next.steps) first.made.state next.last);
@@ -131,49 +168,53 @@ module _ (limit : ℕ) (k : Settings) (into : k.steps_over ≡ false) where
       none_done _ _ (is_some (returns_then p f)) (ends_unit f.state)
       (ap (λ (o : Option ReturnPoint). is_some o) (not_away k.steps_over f.returns_to f.state into returns)) is
 
-  step_units : (points : Points) (f : Flow) → f.state.stop ≡ None → f.returns_to ≡ None
-      → Units k f (one_step p points f)
+  step_units : (points : Points) (f : Flow) → f.state.stop ≡ None → tick_of f.state < limit → f.returns_to ≡ None
+      → Units limit k f (one_step p points f)
   unfolding after
-  step_units points f goes returns =
-      units_or k f (hit_next points f.state) (step f.state).events _ returns (λ miss. record {
+  step_units points f goes early returns =
+      units_or limit k f (hit_next points f.state) (step f.state).events _ returns (λ miss. record {
         steps = 1;
+        early = λ i below. (let e : i ≡ 0 = omega (arith, below) in rw e early);
         made = made_step p f goes;
         last = λ i below. absurd (omega (arith, below));
         none = λ on i below. (let e : i ≡ 0 = omega (arith, below) in rw e (ends_not f returns on));
         returns = not_away k.steps_over f.returns_to f.state into returns;
       })
 
-  pub slice_units : (points : Points) (n : ℕ) (f : Flow) → f.returns_to ≡ None → Units k f (slice p points n f)
+  pub slice_units : (points : Points) (n : ℕ) (f : Flow) → f.returns_to ≡ None → Units limit k f (slice p points n f)
   unfolding slice
-  slice_units points zero f returns = units_none k f None [] returns
+  slice_units points zero f returns = units_none limit k f None [] returns
   slice_units points (suc n) f returns =
-      units_or k f (before_step p points f) [] _ returns (λ goes.
-      let first = step_units points f (goes_from _ f.state.stop goes) returns in
-      then_units k f (one_step p points f) _ (one_step p points f).reason refl first
+      units_or limit k f (before_step p points f) [] _ returns (λ goes.
+      let first = step_units points f (goes_from _ f.state.stop goes)
+      (early_from limit (tick_of f.state) _ _ goes) returns in
+      then_units limit k f (one_step p points f) _ (one_step p points f).reason refl first
       (slice_units points n (one_step p points f).flow first.returns))
 
 -- ---- a turn
 
-pub record UnitFrom (f : Flow) (t : Turned) : Type 0 where
+pub record UnitFrom (limit : ℕ) (f : Flow) (t : Turned) : Type 0 where
   pub steps : ℕ
   pub state : last_state f.state t.pieces ≡ after steps f.state
   pub going : (i : ℕ) → i < steps → (after i f.state).stop ≡ None
+  pub early : IsEarly limit f.state steps
   pub last : OnlyLastEnds f.state steps
 
 -- the end of a turn makes no step
-rest_unit : (k : Settings) (f : Flow) (sliced : Sliced) (t : Turned) → Units k f sliced
-    → last_state sliced.flow.state t.pieces ≡ sliced.flow.state → UnitFrom f (with_pieces sliced.pieces t)
-rest_unit k f sliced t units still = record {
+rest_unit : (limit : ℕ) (k : Settings) (f : Flow) (sliced : Sliced) (t : Turned) → Units limit k f sliced
+    → last_state sliced.flow.state t.pieces ≡ sliced.flow.state → UnitFrom limit f (with_pieces sliced.pieces t)
+rest_unit limit k f sliced t units still = record {
   steps = units.steps;
   state = last-append f.state sliced.pieces t.pieces
       ∙ (ap (λ (s : State). last_state s t.pieces) units.made.last ∙ (still ∙ units.made.state));
   going = units.made.going;
+  early = units.early;
   last = units.last;
 }
 
-then_unit : (k : Settings) (f : Flow) (sliced : Sliced) (t : Turned) → Units k f sliced → sliced.reason ≡ None
-    → UnitFrom sliced.flow t → UnitFrom f (with_pieces sliced.pieces t)
-then_unit k f sliced t units on next =
+then_unit : (limit : ℕ) (k : Settings) (f : Flow) (sliced : Sliced) (t : Turned) → Units limit k f sliced → sliced.reason ≡ None
+    → UnitFrom limit sliced.flow t → UnitFrom limit f (with_pieces sliced.pieces t)
+then_unit limit k f sliced t units on next =
     let m = units.steps in
     let there : sliced.flow.state ≡ after m f.state = units.made.state in record {
       steps = m + next.steps;
@@ -182,37 +223,46 @@ then_unit k f sliced t units on next =
           ∙ (next.state ∙ (ap (after next.steps) there ∙ sym (after_both m next.steps f.state))));
       going = going_both m next.steps f.state units.made.going
           (subst (λ (s : State). (i : ℕ) → i < next.steps → (after i s).stop ≡ None) there next.going);
+      early = early_both limit f.state m next.steps units.early
+          (subst (λ (s : State). IsEarly limit s next.steps) there next.early);
       last = last_both f.state m next.steps (units.none on)
           (subst (λ (s : State). OnlyLastEnds s next.steps) there next.last);
     }
 
 -- text that goes out, and what comes later
-flushed_unit : (features : Features) (is_gdb : Bool) (f : Flow) (later : Turned) → is_gdb ≡ features.is_gdb
-    → UnitFrom (flushed f) later → UnitFrom f (with_pieces (flushing f ∷ []) (asked_or features Step (flushed f) later))
+flushed_unit : (limit : ℕ) (features : Features) (is_gdb : Bool) (f : Flow) (later : Turned) → is_gdb ≡ features.is_gdb
+    → UnitFrom limit (flushed f) later → UnitFrom limit f (with_pieces (flushing f ∷ []) (asked_or features Step (flushed f) later))
 unfolding after
-flushed_unit features true f later is next = rw (sym is) (record {
+flushed_unit limit features true f later is next = rw (sym is) (record {
   steps = 0;
   state = refl;
   going = λ i below. absurd (omega (arith, below));
+  early = λ i below. absurd (omega (arith, below));
   last = λ i below. absurd (omega (arith, below));
 })
-flushed_unit features false f later is next =
-    rw (sym is) (record { steps = next.steps; state = next.state; going = next.going; last = next.last })
+flushed_unit limit features false f later is next =
+    rw (sym is) (record {
+      steps = next.steps;
+      state = next.state;
+      going = next.going;
+      early = next.early;
+      last = next.last;
+    })
 
 module _ (limit : ℕ) (k : Settings) (into : k.steps_over ≡ false) (points : Points) (features : Features) where
   after_slice_unit : (f : Flow) (sliced : Sliced) (o : Option StopReason) (later : Turned) → sliced.reason ≡ o
-      → Units k f sliced → UnitFrom (flushed sliced.flow) later
-      → UnitFrom f (with_pieces sliced.pieces (ended_or k points.watchpoints features sliced o
+      → Units limit k f sliced → UnitFrom limit (flushed sliced.flow) later
+      → UnitFrom limit f (with_pieces sliced.pieces (ended_or k points.watchpoints features sliced o
       (with_pieces (flushing sliced.flow ∷ []) (asked_or features Step (flushed sliced.flow) later))))
-  after_slice_unit f sliced (Some r) later is units next = rest_unit k f sliced _ units refl
+  after_slice_unit f sliced (Some r) later is units next = rest_unit limit k f sliced _ units refl
   after_slice_unit f sliced None later is units next =
-      then_unit k f sliced _ units is (flushed_unit features features.is_gdb sliced.flow later refl next)
+      then_unit limit k f sliced _ units is (flushed_unit limit features features.is_gdb sliced.flow later refl next)
 
   slices_unit : (n rest : ℕ) (f : Flow) → f.returns_to ≡ None
-      → UnitFrom f (slices (step_plan limit k) points features n rest f)
+      → UnitFrom limit f (slices (step_plan limit k) points features n rest f)
   unfolding slices
   slices_unit zero rest f returns =
-      rest_unit k f (slice (step_plan limit k) points rest f) _ (slice_units limit k into points rest f returns) refl
+      rest_unit limit k f (slice (step_plan limit k) points rest f) _ (slice_units limit k into points rest f returns) refl
   slices_unit (suc n) rest f returns =
       let sliced : Sliced = slice (step_plan limit k) points max_slice_steps f in
       let units = slice_units limit k into points max_slice_steps f returns in
@@ -220,5 +270,5 @@ module _ (limit : ℕ) (k : Settings) (into : k.steps_over ≡ false) (points : 
 
   -- a turn of `s`, from its beginning
   pub turn_unit : (run : Run) (s : State) → run.how ≡ Step → run.returns_to ≡ None → run.is_interrupted ≡ false
-      → UnitFrom (begun run s) (turn points k features limit run s)
+      → UnitFrom limit (begun run s) (turn points k features limit run s)
   turn_unit run s how returns on = rw (on, how) (slices_unit _ _ (begun run s) returns)

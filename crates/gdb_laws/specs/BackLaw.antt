@@ -1,5 +1,5 @@
 -- A step forwards and a step back (GDB manual, "Packets", s and bs; profile).
-use Rattle.std.specs.Prelude.{◌≡◌, ℕ, zero, suc, ◌+◌, ◌<◌, true, false, List, ◌∷◌, None}
+use Rattle.std.specs.Prelude.{◌≡◌, ℕ, zero, suc, ◌+◌, ◌<◌, ◌≤◌, true, false, List, ◌∷◌, None}
 use Rattle.gdb.specs.declared.searches.Way.TheVariants as way
 use Rattle.gdb.specs.Searches.{ends_unit}
 use Rattle.gdb_past.specs.Places.{Past, tick_of}
@@ -7,8 +7,10 @@ use Rattle.gdb_server.specs.Conduct.{Answered, answered}
 use Rattle.gdb_server.specs.declared.purposes.Purpose.TheVariants as purpose
 use Rattle.gdb_server.specs.Sessions.{Session}
 use Rattle.gdb_texts.specs.declared.actions.Resume.TheVariants.{Step}
+use Rattle.platform.specs.Time.{last_tick}
 use Rattle.reference.specs.Run.{after}
 use Rattle.reference.specs.State.{State}
+use Rattle.reference.specs.Step.{step}
 use Rattle.serving.specs.Pieces.{last_state}
 
 -- a number of steps after a mark is the mark itself, or the end of a unit
@@ -27,9 +29,9 @@ pub record IsUnitEnd (past : Past) (s : State) : Type 0 where
   pub tick : tick_of s ≡ tick_of mark + steps
   pub unit : EndsUnit mark steps
 
--- the clock counts each step from s that is made
-abbrev pub CountsSteps : State → Type 0
-CountsSteps s = (i : ℕ) → (after i s).stop ≡ None → tick_of (after (suc i) s) ≡ tick_of (after i s) + 1
+-- each step takes a tick, of a machine that hasn't stopped and whose clock isn't at its end
+abbrev pub StepsTakeTicks : Type 0
+StepsTakeTicks = (s : State) → s.stop ≡ None → tick_of s < last_tick → tick_of (step s).state ≡ tick_of s + 1
 
 -- `s`, and the state after it
 abbrev pub stepped : Session → State → List ℕ → Answered
@@ -54,6 +56,11 @@ pub record IsBack (k : Session) (s : State) (tail : List ℕ) : Type 0 where
   pub state : state_after (state_after s (stepped k s tail)) (stepped_back k s tail) ≡ s
   pub past : (stepped_back k s tail).session.past ≡ k.past
 
+-- from the end of a unit, where steps enter handlers, and runs go at most to the end of the clock
+pub record MayStepBack (k : Session) (s : State) : Type 0 where
+  pub here : IsUnitEnd k.past s
+  pub into : k.settings.steps_over ≡ false
+  pub limit : k.limit ≤ last_tick
+
 abbrev pub StepBackLaw : Session → State → List ℕ → Type 0
-StepBackLaw k s tail =
-    IsUnitEnd k.past s → CountsSteps s → k.settings.steps_over ≡ false → MakesBoth k s tail → IsBack k s tail
+StepBackLaw k s tail = StepsTakeTicks → MayStepBack k s → MakesBoth k s tail → IsBack k s tail

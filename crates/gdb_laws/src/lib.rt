@@ -4,9 +4,11 @@
 ghost use Rattle.std.specs.Prelude.{ℕ, List};
 ghost use Rattle.gdb.specs.declared.slices.Points.{Points};
 ghost use Rattle.gdb.specs.declared.turns.Run.{Run};
+ghost use Rattle.gdb_laws.specs.BackLaw.{StepBackLaw};
 ghost use Rattle.gdb_laws.specs.ReadLaw.{ByteLaw, BytesLaw, SessionLaw};
 ghost use Rattle.gdb_laws.specs.RunLaw.{TraceLaw, TurnLaw};
 ghost use Rattle.gdb_server.specs.Conduct.{Server};
+ghost use Rattle.gdb_server.specs.Sessions.{Session};
 ghost use Rattle.gdb_texts.specs.declared.features.Features.{Features};
 ghost use Rattle.gdb_texts.specs.declared.settings.Settings.{Settings};
 ghost use Rattle.machine.specs.MachineModel.{MachineModel};
@@ -41,4 +43,10 @@ pub fn a_turn_writes_its_steps()
 pub fn continue_writes_the_trace()
     ensures { (points : Points) (k : Settings) (features : Features) (limit : ℕ) (run : Run) (s : State)
         → TraceLaw points k features limit run s }
+{}
+
+/// A step, and then a step back, leave the machine and the past as they were, from a state that is the last mark or the
+/// end of a unit after it: where the step was made, neither asks GDB a question, and steps enter handlers.
+pub fn a_step_back_undoes_a_step()
+    ensures { (k : Session) (s : State) (tail : List ℕ) → StepBackLaw k s tail }
 {}
