@@ -1,10 +1,8 @@
 -- A search for the end of a unit: it ends at the last place before, where one was, and nowhere between.
 use Rattle.std.proofs.Common.{◌≡◌, ◌∙◌, ◌⊎◌, ℕ, zero, suc, ◌+◌, ◌-◌, ◌<◌, ◌≤◌, nat_le, nat_lt, Bool, true, false, ◌&&◌}
-use Rattle.std.proofs.Common.{List, [], ◌∷◌, Option, Some, None, ap, arith, if◌then◌else◌, inl, inr, refl, subst, sym}
-use Rattle.std.proofs.lemmas.Bool.{cases_lt, cond_both}
+use Rattle.std.proofs.Common.{List, ◌∷◌, Option, Some, None, ap, arith, if◌then◌else◌, inl, inr, refl, subst, sym}
+use Rattle.std.proofs.lemmas.Bool.{cases_lt}
 use Rattle.std.proofs.lemmas.Bool.Decides.{nat_tests}
-use Rattle.gdb.specs.declared.returns.Return.{Return}
-use Rattle.gdb.specs.declared.returns.Return.TheVariants as returning
 use Rattle.gdb.specs.declared.searches.FoundPlace.{FoundPlace}
 use Rattle.gdb.specs.declared.searches.SearchScope.{SearchScope}
 use Rattle.gdb.specs.declared.searches.Way.TheVariants as way
@@ -12,19 +10,17 @@ use Rattle.gdb.specs.declared.slices.Points.{Points}
 use Rattle.gdb.specs.declared.turns.Turn.{Turn}
 use Rattle.gdb.specs.declared.turns.Turn.TheVariants as turning
 use Rattle.gdb.specs.Reasons.{reason_if, reason_or}
-use Rattle.gdb.specs.Returns.{Returned, first_search, flow_at, low_of, return, returned_to}
+use Rattle.gdb.specs.Returns.{Returned, first_search, low_of, return, returned_to}
 use Rattle.gdb.specs.Searches.{Place, before_mark, ends_unit, found_from, found_if, found_or, last_found, mark_found}
-use Rattle.gdb.specs.Searches.{place_back, place_of, place_or, reason_after_steps, reason_of_next, reason_there}
+use Rattle.gdb.specs.Searches.{place_back, place_of, place_or, reason_after_steps, reason_of_next}
 use Rattle.gdb.specs.Turns.{Turned, turn}
 use Rattle.gdb_past.specs.Places.{Past, tick_of}
-use Rattle.gdb_laws.proofs.Units.{IsEarly, OnlyLastEnds, UnitFrom, turn_unit}
+use Rattle.gdb_laws.proofs.Units.{IsEarly, OnlyLastEnds, turn_unit}
 use Rattle.gdb_laws.proofs.Made.{after_both}
-use Rattle.gdb_laws.specs.BackLaw.{EndsUnit, IsBack, IsUnitEnd, MakesBoth, MayStepBack, StepBackLaw, StepsTakeTicks}
-use Rattle.gdb_laws.specs.BackLaw.{state_after, stepped, stepped_back}
+use Rattle.gdb_laws.specs.BackLaw.{EndsUnit, StepBackLaw, StepsTakeTicks}
 use Rattle.gdb_server.specs.Conduct.{first_turn, returned, searched, with_turn}
 use Rattle.gdb_server.specs.Sessions.{Session}
 use Rattle.gdb_texts.specs.declared.actions.Resume.TheVariants.{Step}
-use Rattle.gdb_texts.specs.declared.features.Features.{Features}
 use Rattle.gdb_texts.specs.declared.settings.Settings.{Settings}
 use Rattle.gdb_texts.specs.declared.stops.Signal.{Signal}
 use Rattle.gdb_texts.specs.declared.stops.StopReason.{StopReason}
@@ -126,7 +122,8 @@ module _ (points : Points) (k : Settings) (m : State) (j n now : ℕ) (some : 0 
         (if nat_le low (tick_of m) then place_back (before_mark (scope_of now) m) points k low m marks else None)
     unfolding place_back
     place_from low oldest marks found is =
-        let early : nat_lt now (tick_of m) ≡ false = (let b : tick_of m ≤ now = omega (arith, at) in grind (arith, nat_tests)) in
+        let early : nat_lt now (tick_of m) ≡ false = (let b : tick_of m ≤ now = omega (arith, at) in
+        grind (arith, nat_tests)) in
         ap (λ (b : Bool). if b then place_back (scope_of now) points k low m marks
         else place_or (m ∷ marks) m (found_from (scope_of now) points k low m)
         (if nat_le low (tick_of m) then place_back (before_mark (scope_of now) m) points k low m marks else None)) early
@@ -162,7 +159,8 @@ module _ (points : Points) (k : Settings) (m : State) (n now : ℕ) (some : 0 < 
       elim (cases_lt (tick_of m) low) [
         | inl late ↦ inr (none_from points k m 0 n now some at quiet low oldest marks none late)
         | inr early ↦ (let b : nat_le low (tick_of m) ≡ true = grind (arith, nat_tests) in
-            let before : nat_lt (tick_of m) now ≡ true = (let less : tick_of m < now = omega (arith, at, some) in grind (arith, nat_tests)) in
+            let before : nat_lt (tick_of m) now ≡ true = (let less : tick_of m < now = omega (arith, at, some) in
+            grind (arith, nat_tests)) in
             inl (some_from points k m 0 n now some at quiet low oldest marks
             (ap (λ (f : Option FoundPlace). found_or f
             (if nat_le low (tick_of m) then mark_found (scope_of now) points m else None)) none
@@ -213,11 +211,13 @@ returned_back : (j : Session) (there s : State) (q : SearchScope) (low : ℕ) (m
     → ((o ≡ Some (place_of (m ∷ marks) m (record { steps = n; reason = reason.Done }))) ⊎ (o ≡ None))
     → Back j there s j.past (returned_to j.settings j.points j.features j.past q low there o)
 returned_back j there s q low m marks n o are is (inl found) =
-    subst (λ (p : Option Place). Back j there s j.past (returned_to j.settings j.points j.features j.past q low there p))
+    subst (λ (p : Option Place). Back j there s j.past
+    (returned_to j.settings j.points j.features j.past q low there p))
     (sym found)
     (λ ended. (sym is, ap (λ (l : List State). let past : Past = record j.past { marks = l } in past) (sym are)))
 returned_back j there s q low m marks n o are is (inr none) =
-    subst (λ (p : Option Place). Back j there s j.past (returned_to j.settings j.points j.features j.past q low there p))
+    subst (λ (p : Option Place). Back j there s j.past
+    (returned_to j.settings j.points j.features j.past q low there p))
     (sym none) (λ ended. absurd cc)
 
 -- the session after a step that ended keeps all that the search reads

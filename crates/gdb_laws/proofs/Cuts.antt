@@ -1,12 +1,12 @@
 -- Text on its way to GDB's console: the packets that it fills, and what waits.
-use Rattle.std.proofs.Common.{◌≡◌, ◌∙◌, ◌==◌, ℕ, Bool, true, false, if◌then◌else◌, List, [], ◌∷◌, ◌++◌, ap, arith, length}
-use Rattle.std.proofs.Common.{append_assoc, refl, sym}
+use Rattle.std.proofs.Common.{◌≡◌, ◌∙◌, ◌==◌, ℕ, Bool, true, false, if◌then◌else◌, List, [], ◌∷◌, ◌++◌, ap, arith}
+use Rattle.std.proofs.Common.{append_assoc, length, refl, sym}
 use Rattle.std.proofs.lemmas.Bool.Decides.{nat_tests}
 use Rattle.std.proofs.lemmas.List.{append-nil}
 use Rattle.std.proofs.lemmas.List.Folds.{concat-append}
 use Rattle.std.specs.List.{concat}
-use Rattle.gdb.specs.Consoles.{Console, console_after, console_with, emptied, flush_text, if_full, packet_if_full}
-use Rattle.gdb.specs.Consoles.{sent_by, sent_with, with_byte}
+use Rattle.gdb.specs.Consoles.{Console, console_after, console_with, emptied, flush_text}
+use Rattle.gdb.specs.Consoles.{sent_by, sent_with}
 use Rattle.gdb_texts.specs.Console.{console_packet, console_packets, is_full}
 
 -- more text was put to a console: these packets were sent, and the rest waits
@@ -19,7 +19,6 @@ pub packets-append : (xs ys : List (List ℕ)) → console_packets (xs ++ ys) �
 unfolding console_packets
 packets-append [] ys = refl
 packets-append (x ∷ xs) ys = rw (packets-append xs ys, append_assoc) refl
-
 
 pub cut_none : (c : Console) → Cut c [] c []
 unfolding console_packets

@@ -1,5 +1,5 @@
 -- The steps of a run: the state after them, and their text.
-use Rattle.std.proofs.Common.{◌≡◌, ◌∙◌, ℕ, zero, suc, ◌+◌, ◌-◌, ◌<◌, ◌≤◌, ◌⊎◌, Bool, true, false, List, [], ◌∷◌, ◌++◌, Option}
+use Rattle.std.proofs.Common.{◌≡◌, ◌∙◌, ℕ, zero, suc, ◌+◌, ◌-◌, ◌<◌, Bool, true, false, List, [], ◌∷◌, ◌++◌, Option}
 use Rattle.std.proofs.Common.{Some, None, ap, append_assoc, arith, inl, inr, is_some, refl, subst, sym, unwrap_or}
 use Rattle.std.proofs.lemmas.Bool.{cases_lt}
 use Rattle.std.proofs.lemmas.List.{append-nil}
@@ -10,15 +10,15 @@ use Rattle.gdb.specs.declared.slices.Points.{Points}
 use Rattle.gdb.specs.declared.turns.Run.{Run}
 use Rattle.gdb.specs.declared.turns.Turn.{Turn}
 use Rattle.gdb.specs.declared.turns.Turn.TheVariants.{Ends}
-use Rattle.gdb.specs.Consoles.{Console, console_after, emptied, flush_text, sent_by}
+use Rattle.gdb.specs.Consoles.{console_after, emptied, flush_text, sent_by}
 use Rattle.gdb.specs.Slices.{Flow, Sliced, after_pieces, after_step, at_rest, before_step, hit_next, one_step}
 use Rattle.gdb.specs.Slices.{reason_then, slice, step_piece, step_text, unless_ended}
-use Rattle.gdb.specs.Turns.{Turned, after_slice, after_whys, all_slices, asked, asked_or, begun, ended, ended_or}
-use Rattle.gdb.specs.Turns.{flushed, flushing, last_slice, max_slice_steps, plan_of, said, slices, steps_left}
+use Rattle.gdb.specs.Turns.{Turned, asked, asked_or, begun, ended, ended_or}
+use Rattle.gdb.specs.Turns.{flushed, flushing, max_slice_steps, plan_of, slices}
 use Rattle.gdb.specs.Turns.{stop_packet, turn, whys, with_pieces}
-use Rattle.gdb.specs.Reasons.{reason_in_unit, reason_if, reason_or}
+use Rattle.gdb.specs.Reasons.{reason_if, reason_or}
 use Rattle.gdb_laws.proofs.Cuts.{Cut, cut_both, cut_flush, cut_none, cut_text, packets-append}
-use Rattle.gdb_laws.specs.RunLaw.{EndsWith, MakesSteps, SaysWhy, TurnLaw, WritesText, text_of}
+use Rattle.gdb_laws.specs.RunLaw.{EndsWith, TurnLaw, text_of}
 use Rattle.gdb_texts.specs.Console.{console_packets}
 use Rattle.gdb_texts.specs.declared.actions.Resume.{Resume}
 use Rattle.gdb_texts.specs.declared.features.Features.{Features}
@@ -26,7 +26,6 @@ use Rattle.gdb_texts.specs.declared.settings.Settings.{Settings}
 use Rattle.gdb_texts.specs.declared.stops.StopReason.{StopReason}
 use Rattle.gdb_texts.specs.declared.stops.StopReason.TheVariants.{Interrupted, StoppedBefore}
 use Rattle.gdb_texts.specs.declared.watchpoints.Watchpoint.{Watchpoint}
-use Rattle.gdb_texts.specs.Settings.{max_steps}
 use Rattle.gdb_texts.specs.Stops.{signal_of}
 use Rattle.platform.specs.declared.event.Event.{Event}
 use Rattle.platform.specs.declared.stop.Stop.{Stop}

@@ -1,6 +1,6 @@
 -- Bytes that only read: one, by its event and its packet, and then many.
-use Rattle.std.proofs.Common.{◌≡◌, ◌∙◌, ℕ, suc, Bool, true, false, ◌&&◌, if◌then◌else◌, List, [], ◌∷◌, ◌++◌, Option, Some}
-use Rattle.std.proofs.Common.{None, Result, Ok, Err, All, ap, arith, inl, inr, option_map, refl, subst, sym}
+use Rattle.std.proofs.Common.{◌≡◌, ◌∙◌, ℕ, suc, Bool, true, false, ◌&&◌, if◌then◌else◌, List, [], ◌∷◌, ◌++◌, Option}
+use Rattle.std.proofs.Common.{Some, None, Result, Ok, Err, ap, arith, inl, inr, option_map, refl, subst, sym}
 use Rattle.std.proofs.lemmas.List.{append-nil}
 use Rattle.std.proofs.lemmas.List.Elements.{All-append, All-cons, All-nil}
 use Rattle.debugger_commands.specs.declared.commands.LineError.{LineError}
@@ -8,11 +8,11 @@ use Rattle.gdb_laws.specs.ReadLaw.{AreIn, ByteLaw, BytesLaw, IsAtRest, LeaveMach
 use Rattle.gdb_laws.specs.ReadLaw.{command_reads, event_reads, only_reads, packet_reads, purpose_reads, session_at}
 use Rattle.gdb_packets.specs.declared.framer.Event.{Event}
 use Rattle.gdb_packets.specs.declared.framer.Event.TheVariants as event
-use Rattle.gdb_packets.specs.Framing.{Framing, after, event_of, plus}
+use Rattle.gdb_packets.specs.Framing.{after, event_of, plus}
 use Rattle.gdb_packets.specs.Packets.{Packet, packet_of}
 use Rattle.gdb_server.specs.Commands.{command_of}
 use Rattle.gdb_server.specs.Conduct.{Answered, Server, acknowledged, acknowledgement, answered, byte_answered}
-use Rattle.gdb_server.specs.Conduct.{commanded, conduct, event_answered, interrupted, interrupted_if, packet_by}
+use Rattle.gdb_server.specs.Conduct.{commanded, conduct, event_answered, interrupted_if, packet_by}
 use Rattle.gdb_server.specs.Conduct.{piece, too_long_by}
 use Rattle.gdb_server.specs.declared.purposes.Purpose.{Purpose}
 use Rattle.gdb_server.specs.declared.purposes.Purpose.TheVariants as purpose
@@ -27,9 +27,8 @@ use Rattle.machine.specs.MachineModel.{MachineModel}
 use Rattle.output.specs.Input.{Reading}
 use Rattle.output.specs.Output.{Writing}
 use Rattle.reference.specs.State.{State}
-use Rattle.serving.specs.Conduct.{SessionState, after_bytes, answers, course_of, next}
+use Rattle.serving.specs.Conduct.{SessionState, after_bytes, answers, next}
 use Rattle.serving.specs.Pieces.{Piece, last_state}
-use Rattle.serving.specs.Sessions.{HoldsSession}
 
 -- ---- pieces in one state
 
@@ -225,7 +224,7 @@ session_leaves server old new before after out out' held r is =
     (last_in old.state old.state held.pieces refl (elim held.ends [
       | inl h ↦ all_in server old.state held.given held.pieces leave.pieces h.1
       | inr h ↦ elim h [
-          | inl g ↦ subst (AreIn old.state) (sym g.1) leave.pieces
-          | inr g ↦ subst (AreIn old.state) (sym g.1) leave.pieces
-        ]
+        | inl g ↦ subst (AreIn old.state) (sym g.1) leave.pieces
+        | inr g ↦ subst (AreIn old.state) (sym g.1) leave.pieces
+      ]
     ]))

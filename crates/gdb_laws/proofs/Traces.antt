@@ -1,7 +1,6 @@
 -- A run of `c` that traces all, with nothing else that stops it: the lines at its end are the line of its stop.
-use Rattle.std.proofs.Common.{◌≡◌, ◌∙◌, ◌⊎◌, ◌==◌, ℕ, zero, suc, nat_le, Bool, true, false, not, ◌&&◌, ◌||◌, List, [], ◌∷◌}
-use Rattle.std.proofs.Common.{◌++◌, Option, Some, None, ap, append_assoc, if◌then◌else◌, inl, inr, is_some, refl, subst}
-use Rattle.std.proofs.Common.{sym, unwrap_or}
+use Rattle.std.proofs.Common.{◌≡◌, ◌∙◌, ◌⊎◌, ◌==◌, ℕ, zero, suc, nat_le, Bool, true, false, not, ◌&&◌, ◌||◌, List, []}
+use Rattle.std.proofs.Common.{◌∷◌, ◌++◌, Option, Some, None, ap, inl, inr, is_some, refl, subst, sym, unwrap_or}
 use Rattle.std.specs.Prelude.{⊤, codes, decimal}
 use Rattle.std.specs.List.{filter}
 use Rattle.std.proofs.lemmas.Bool.{cond_both}
@@ -16,37 +15,35 @@ use Rattle.gdb.specs.declared.turns.Turn.{Turn}
 use Rattle.gdb.specs.declared.turns.Turn.TheVariants.{Asks, Ends}
 use Rattle.gdb.specs.Consoles.{Console, console_after, console_with, emptied, with_byte}
 use Rattle.gdb.specs.Over.{is_back}
-use Rattle.gdb.specs.Reasons.{event_hit, first_hit, has_entry, hit_by_access, reason_at_breakpoint, reason_before}
+use Rattle.gdb.specs.Reasons.{event_hit, first_hit, has_entry, hit_by_access, reason_at_breakpoint}
 use Rattle.gdb.specs.Reasons.{reason_back, reason_if, reason_in_unit, reason_or, stop_reason, watch_reason}
-use Rattle.gdb.specs.Slices.{Flow, Sliced, after_pieces, after_step, at_rest, before_step, counts, hit_next, one_step}
-use Rattle.gdb.specs.Slices.{reason_then, returns_then, slice, step_piece, step_text, unless_ended}
-use Rattle.gdb.specs.Turns.{Turned, asked, asked_or, begun, ended, ended_or, flushed, flushing, max_slice_steps}
-use Rattle.gdb.specs.Turns.{plan_of, slices, turn, whys, with_pieces}
+use Rattle.gdb.specs.Slices.{Flow, Sliced, after_pieces, after_step, at_rest, before_step, counts, one_step}
+use Rattle.gdb.specs.Slices.{reason_then, returns_then, slice, step_piece, unless_ended}
+use Rattle.gdb.specs.Turns.{Turned, asked_or, begun, ended_or, flushed, flushing, max_slice_steps}
+use Rattle.gdb.specs.Turns.{slices, turn, whys, with_pieces}
 use Rattle.gdb.specs.Whys.{has_line, line_begun, needs_line, stop_text, stop_with_line}
 use Rattle.gdb_laws.proofs.Made.{TurnFrom, after_sliced, end_turn, on_turn}
-use Rattle.gdb_laws.specs.RunLaw.{Continues, IsTraceOf, TraceLaw, TracesAll, WritesTrace}
+use Rattle.gdb_laws.specs.RunLaw.{Continues, IsTraceOf, TraceLaw, WritesTrace}
 use Rattle.gdb_texts.specs.declared.actions.Resume.TheVariants.{Continue}
 use Rattle.gdb_texts.specs.declared.features.Features.{Features}
 use Rattle.gdb_texts.specs.declared.points.Breakpoint.{Breakpoint}
 use Rattle.gdb_texts.specs.declared.settings.Settings.{Settings}
-use Rattle.gdb_texts.specs.declared.stops.Signal.{Signal}
 use Rattle.gdb_texts.specs.declared.stops.StopReason.{StopReason}
 use Rattle.gdb_texts.specs.declared.stops.StopReason.TheVariants as reason
 use Rattle.gdb_texts.specs.declared.watchpoints.Watchpoint.{Watchpoint}
 use Rattle.gdb_texts.specs.Stops.{signal_of}
 use Rattle.platform.specs.declared.access.DecidedAccess.{DecidedAccess}
 use Rattle.platform.specs.declared.event.Event.{Event}
-use Rattle.platform.specs.declared.event.EventKind.{EventKind}
 use Rattle.platform.specs.declared.stop.Stop.{Stop}
 use Rattle.platform.specs.declared.stop.Stop.TheVariants.{StepLimit}
 use Rattle.platform.specs.Events.{access_of, event_text, line}
 use Rattle.platform.specs.Events as events
 use Rattle.platform.specs.Text.{stop_line}
-use Rattle.reference.specs.Run.{after, ending_of, events_of}
+use Rattle.reference.specs.Run.{after}
 use Rattle.reference.specs.State.{State}
 use Rattle.reference.specs.Step.{step}
 use Rattle.trace.specs.declared.selection.TraceSelection.TheVariants.{All}
-use Rattle.trace.specs.Selection.{new_line_after, selected_text, selected_trace, selects, steps_text}
+use Rattle.trace.specs.Selection.{new_line_after, selected_text, selected_trace, steps_text}
 
 -- ---- the settings, and the points
 
@@ -115,7 +112,8 @@ before_stop (Some why) late rest none = refl
 before_stop None true rest none = refl
 before_stop None false rest none = none_left rest None none
 
-back_none : (s : State) (made : ℕ) (returns_to : Option ReturnPoint) → reason_in_unit [] Continue made s returns_to ≡ None
+back_none : (s : State) (made : ℕ) (returns_to : Option ReturnPoint)
+    → reason_in_unit [] Continue made s returns_to ≡ None
 back_none s made None = cond_both _ _ _ (λ (o : Option StopReason). o ≡ None) (λ e. refl) (λ e. refl)
 back_none s made (Some point) =
     cond_both (is_back s point) (reason_back [] Continue s point) (reason_at_breakpoint [] s)
@@ -192,8 +190,8 @@ module _ (limit : ℕ) (over : Bool) (budget : Option ℕ) where
       let on : Sliced → Sliced = λ part. after_pieces part.pieces
       (unless_ended part.reason part.events part.flow (slice p no_points n part.flow)) in
       let later : Stops f (on (made_part f)) =
-      (let next = stops_or (reason_then p f) (step f.state).events (after_step p f) (slice p no_points n (after_step p f))
-      (then_stop f) line (slice_stops n (after_step p f) line) in record { why = next.why; line = next.line }) in
+      (let next = stops_or (reason_then p f) (step f.state).events (after_step p f)
+      (slice p no_points n (after_step p f)) (then_stop f) line (slice_stops n (after_step p f) line) in record { why = next.why; line = next.line }) in
       stops_or (before_step p no_points f) [] f (on (one_step p no_points f))
       (before_stop f.state.stop (nat_le limit f.state.bus.system.time.ticks)
       (reason_in_unit [] Continue f.made f.state f.returns_to) (back_none f.state f.made f.returns_to)) ends
@@ -222,8 +220,10 @@ why_lines : (over : Bool) (budget : Option ℕ) (features : Features) (r : StopR
     → whys (traced over budget) [] r es f ≡ stop_text (stop_with_line r f.state.stop)
 unfolding events.lines
 why_lines over budget features r es f ends =
-    rw (begun_line (has_line (traced over budget) [] es (stop_with_line r f.state.stop)) f.console.last ends,
-    none_needed over budget es) refl
+    rw (
+      begun_line (has_line (traced over budget) [] es (stop_with_line r f.state.stop)) f.console.last ends,
+      none_needed over budget es,
+    ) refl
 
 -- what is at the end of a turn of such a run
 abbrev AtEnd : State → Turn → List ℕ → Type 0

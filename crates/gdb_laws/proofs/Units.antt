@@ -1,36 +1,34 @@
 -- A run of `s` makes at most one unit: no step but its last one ends a unit.
-use Rattle.std.proofs.Common.{◌≡◌, ◌∙◌, ◌⊎◌, ℕ, zero, suc, ◌+◌, ◌-◌, ◌<◌, ◌≤◌, nat_le, Bool, true, false, not, ◌&&◌, ◌||◌, List}
-use Rattle.std.proofs.Common.{[], ◌∷◌, ◌++◌, Option, Some, None, ap, arith, if◌then◌else◌, inl, inr, is_some, refl, subst}
-use Rattle.std.proofs.Common.{sym, unwrap_or}
+use Rattle.std.proofs.Common.{◌≡◌, ◌∙◌, ℕ, zero, suc, ◌+◌, ◌-◌, ◌<◌, nat_le, Bool, true, false, not, ◌&&◌, List}
+use Rattle.std.proofs.Common.{[], ◌∷◌, Option, Some, None, ap, arith, inl, inr, is_some, refl, subst}
+use Rattle.std.proofs.Common.{sym}
 use Rattle.std.proofs.lemmas.Bool.{cases_lt}
 use Rattle.std.proofs.lemmas.Bool.Decides.{nat_tests}
 use Rattle.gdb.specs.declared.over.ReturnPoint.{ReturnPoint}
 use Rattle.gdb.specs.declared.slices.Plan.{Plan}
 use Rattle.gdb.specs.declared.slices.Points.{Points}
 use Rattle.gdb.specs.declared.turns.Run.{Run}
-use Rattle.gdb.specs.Over.{is_stack, remembered_after}
-use Rattle.gdb.specs.Reasons.{has_entry, reason_if, reason_or}
+use Rattle.gdb.specs.Over.{remembered_after}
+use Rattle.gdb.specs.Reasons.{reason_if, reason_or}
 use Rattle.gdb.specs.Searches.{ends_unit}
-use Rattle.gdb.specs.Slices.{Flow, Sliced, after_pieces, after_step, at_rest, before_step, going_on, hit_next, one_step}
-use Rattle.gdb.specs.Slices.{reason_then, returns_then, slice, step_piece, unless_ended}
-use Rattle.gdb.specs.Turns.{Turned, asked, asked_or, begun, ended, ended_or, flushed, flushing, max_slice_steps}
-use Rattle.gdb.specs.Turns.{plan_of, slices, turn, with_pieces}
+use Rattle.gdb.specs.Slices.{Flow, Sliced, after_pieces, at_rest, before_step, hit_next, one_step}
+use Rattle.gdb.specs.Slices.{reason_then, returns_then, slice, unless_ended}
+use Rattle.gdb.specs.Turns.{Turned, asked_or, begun, ended_or, flushed, flushing, max_slice_steps}
+use Rattle.gdb.specs.Turns.{slices, turn, with_pieces}
 use Rattle.gdb_laws.proofs.Made.{Made, after_both, going_both, goes_from, last-append, made_both, made_none}
 use Rattle.gdb_laws.proofs.Made.{made_step}
 use Rattle.gdb_past.specs.Places.{tick_of}
-use Rattle.gdb_texts.specs.declared.actions.Resume.{Resume}
 use Rattle.gdb_texts.specs.declared.actions.Resume.TheVariants.{Step}
 use Rattle.gdb_texts.specs.declared.features.Features.{Features}
 use Rattle.gdb_texts.specs.declared.settings.Settings.{Settings}
 use Rattle.gdb_texts.specs.declared.stops.StopReason.{StopReason}
 use Rattle.gdb_texts.specs.declared.stops.StopReason.TheVariants as reason
-use Rattle.gdb_texts.specs.declared.watchpoints.Watchpoint.{Watchpoint}
 use Rattle.platform.specs.declared.event.Event.{Event}
 use Rattle.platform.specs.declared.stop.Stop.TheVariants.{StepLimit}
 use Rattle.reference.specs.Run.{after}
 use Rattle.reference.specs.State.{State}
 use Rattle.reference.specs.Step.{step}
-use Rattle.serving.specs.Pieces.{Piece, last_state}
+use Rattle.serving.specs.Pieces.{last_state}
 
 -- no step of n from a state ends a unit
 abbrev pub NoneEnds : State → ℕ → Type 0
@@ -212,8 +210,8 @@ rest_unit limit k f sliced t units still = record {
   last = units.last;
 }
 
-then_unit : (limit : ℕ) (k : Settings) (f : Flow) (sliced : Sliced) (t : Turned) → Units limit k f sliced → sliced.reason ≡ None
-    → UnitFrom limit sliced.flow t → UnitFrom limit f (with_pieces sliced.pieces t)
+then_unit : (limit : ℕ) (k : Settings) (f : Flow) (sliced : Sliced) (t : Turned) → Units limit k f sliced
+    → sliced.reason ≡ None → UnitFrom limit sliced.flow t → UnitFrom limit f (with_pieces sliced.pieces t)
 then_unit limit k f sliced t units on next =
     let m = units.steps in
     let there : sliced.flow.state ≡ after m f.state = units.made.state in record {
@@ -231,7 +229,8 @@ then_unit limit k f sliced t units on next =
 
 -- text that goes out, and what comes later
 flushed_unit : (limit : ℕ) (features : Features) (is_gdb : Bool) (f : Flow) (later : Turned) → is_gdb ≡ features.is_gdb
-    → UnitFrom limit (flushed f) later → UnitFrom limit f (with_pieces (flushing f ∷ []) (asked_or features Step (flushed f) later))
+    → UnitFrom limit (flushed f) later
+    → UnitFrom limit f (with_pieces (flushing f ∷ []) (asked_or features Step (flushed f) later))
 unfolding after
 flushed_unit limit features true f later is next = rw (sym is) (record {
   steps = 0;
@@ -262,7 +261,8 @@ module _ (limit : ℕ) (k : Settings) (into : k.steps_over ≡ false) (points : 
       → UnitFrom limit f (slices (step_plan limit k) points features n rest f)
   unfolding slices
   slices_unit zero rest f returns =
-      rest_unit limit k f (slice (step_plan limit k) points rest f) _ (slice_units limit k into points rest f returns) refl
+      rest_unit limit k f (slice (step_plan limit k) points rest f) _ (slice_units limit k into points rest f returns)
+      refl
   slices_unit (suc n) rest f returns =
       let sliced : Sliced = slice (step_plan limit k) points max_slice_steps f in
       let units = slice_units limit k into points max_slice_steps f returns in

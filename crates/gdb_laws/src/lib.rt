@@ -1,4 +1,5 @@
-//! What holds of sessions of `marm gdb`, by their definitions: each law is the contract of a function that does nothing.
+//! What holds of sessions of `marm gdb`, by their definitions: each law is the contract of a function that does
+//! nothing.
 #![tactic(auto)]
 
 ghost use Rattle.std.specs.Prelude.{ℕ, List};
@@ -37,9 +38,9 @@ pub fn a_turn_writes_its_steps()
         → TurnLaw points k features limit run s }
 {}
 
-/// With `monitor trace all`, and no breakpoint, no watchpoint and no `monitor stop ..`, a turn of `c` gives GDB's console
-/// what `marm run --trace all` writes of as many steps: the whole trace to the line of the stop, or, where the run was
-/// interrupted, its budget is made or GDB is asked, the trace without that line.
+/// With `monitor trace all`, and no breakpoint, no watchpoint and no `monitor stop ..`, a turn of `c` gives GDB's
+/// console what a run of `machine` writes of as many steps: the whole trace to the line of the stop, or, where the run
+/// was interrupted, its budget is made or GDB is asked, the trace without that line.
 pub fn continue_writes_the_trace()
     ensures { (points : Points) (k : Settings) (features : Features) (limit : ℕ) (run : Run) (s : State)
         → TraceLaw points k features limit run s }
