@@ -191,7 +191,8 @@ module _ (limit : ℕ) (over : Bool) (budget : Option ℕ) where
       (unless_ended part.reason part.events part.flow (slice p no_points n part.flow)) in
       let later : Stops f (on (made_part f)) =
       (let next = stops_or (reason_then p f) (step f.state).events (after_step p f)
-      (slice p no_points n (after_step p f)) (then_stop f) line (slice_stops n (after_step p f) line) in record { why = next.why; line = next.line }) in
+      (slice p no_points n (after_step p f)) (then_stop f) line
+      (slice_stops n (after_step p f) line) in record { why = next.why; line = next.line }) in
       stops_or (before_step p no_points f) [] f (on (one_step p no_points f))
       (before_stop f.state.stop (nat_le limit f.state.bus.system.time.ticks)
       (reason_in_unit [] Continue f.made f.state f.returns_to) (back_none f.state f.made f.returns_to)) ends
