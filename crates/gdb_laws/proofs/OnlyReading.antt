@@ -4,7 +4,8 @@ use Rattle.std.proofs.Common.{Some, None, Result, Ok, Err, ap, arith, inl, inr, 
 use Rattle.std.proofs.lemmas.List.{append-nil}
 use Rattle.std.proofs.lemmas.List.Elements.{All-append, All-cons, All-nil}
 use Rattle.debugger_commands.specs.declared.commands.LineError.{LineError}
-use Rattle.gdb_laws.specs.ReadLaw.{AreIn, ByteLaw, BytesLaw, IsAtRest, LeaveMachine, LeavesMachine, SessionLaw}
+use Rattle.devices.specs.declared.device.Device.{Device}
+use Rattle.gdb_laws.specs.ReadLaw.{AreIn, ByteLaw, BytesLaw, IsAtRest, LeaveMachine, LeavesMachine, SessionLaw, bytes_read}
 use Rattle.gdb_laws.specs.ReadLaw.{command_reads, event_reads, only_reads, packet_reads, purpose_reads, session_at}
 use Rattle.gdb_packets.specs.declared.framer.Event.{Event}
 use Rattle.gdb_packets.specs.declared.framer.Event.TheVariants as event
@@ -12,8 +13,8 @@ use Rattle.gdb_packets.specs.Framing.{after, event_of, plus}
 use Rattle.gdb_packets.specs.Packets.{Packet, packet_of}
 use Rattle.gdb_server.specs.Commands.{command_of}
 use Rattle.gdb_server.specs.Conduct.{Answered, Server, acknowledged, acknowledgement, answered, byte_answered}
-use Rattle.gdb_server.specs.Conduct.{commanded, conduct, event_answered, interrupted_if, packet_by}
-use Rattle.gdb_server.specs.Conduct.{piece, too_long_by}
+use Rattle.gdb_server.specs.Conduct.{commanded, conduct, event_answered, first, interrupted_if}
+use Rattle.gdb_server.specs.Conduct.{packet_by, piece, too_long_by}
 use Rattle.gdb_server.specs.declared.purposes.Purpose.{Purpose}
 use Rattle.gdb_server.specs.declared.purposes.Purpose.TheVariants as purpose
 use Rattle.gdb_server.specs.declared.purposes.SessionChange.{SessionChange}
@@ -26,9 +27,13 @@ use Rattle.gdb_texts.specs.declared.monitor.Monitor.TheVariants as monitor
 use Rattle.machine.specs.MachineModel.{MachineModel}
 use Rattle.output.specs.Input.{Reading}
 use Rattle.output.specs.Output.{Writing}
+use Rattle.platform.specs.Boards.{Numbers}
 use Rattle.reference.specs.State.{State}
-use Rattle.serving.specs.Conduct.{SessionState, after_bytes, answers, next}
-use Rattle.serving.specs.Pieces.{Piece, last_state}
+use Rattle.serving.specs.Conduct.{SessionState, after_bytes, answers, course_of, next}
+use Rattle.serving.specs.declared.sessions.SessionError.{SessionError}
+use Rattle.serving.specs.declared.sessions.SessionError.TheVariants.{Read, Write}
+use Rattle.serving.specs.Pieces.{DeliversPart, Piece, last_state}
+use Rattle.serving.specs.Sessions.{AreSoFar, Course, Ends, Sessions}
 
 -- ---- pieces in one state
 
@@ -210,21 +215,64 @@ bytes_leave server s (byte ∷ bytes) r is =
 
 -- ---- a whole session
 
--- nothing is written at the end of the input
-all_in : (server : Server) (s : State) (bytes : List ℕ) (pieces : List Piece)
-    → AreIn s (answers conduct (session_at server s) bytes)
-    → pieces ≡ answers conduct (session_at server s) bytes ++ [] → AreIn s pieces
-all_in server s bytes pieces all are = subst (AreIn s) (sym (are ∙ append-nil _)) all
+-- the machine is in the state of the last piece, or of one of them
+stays_in : (old new : MachineModel) (pieces : List Piece) → AreIn old.state pieces
+    → new ≡ record old { state = last_state old.state pieces } → new ≡ old
+stays_in old new pieces all is =
+    is ∙ ap (λ (s : State). record old { state = s }) (last_in old.state old.state pieces refl all)
 
-pub session_leaves : (server : Server) (old new : MachineModel) (before after : Reading) (out out' : Writing)
-    → SessionLaw server old new before after out out'
-session_leaves server old new before after out out' held r is =
+one_of : (s : State) (done others : List Piece) (p : Piece) → AreIn s (done ++ p ∷ others) → p.state ≡ s
+one_of s [] others p all = all 0 p (omega arith)
+one_of s (q ∷ done) others p all = one_of s done others p (λ k d below. all (suc k) d (omega (arith, below)))
+
+stays_at : (old new : MachineModel) (before after : Writing) (pieces : List Piece) → AreIn old.state pieces
+    → DeliversPart pieces old new before after → new ≡ old
+stays_at old new before after pieces all part =
+    part.stands ∙ ap (λ (s : State). record old { state = s })
+    (one_of old.state part.done part.others part.piece (subst (AreIn old.state) part.among all))
+
+-- nothing is written at the end of the input
+module _ (server : Server) (s : State) where
+  abbrev t : Course
+  t = course_of conduct server s
+
+  all_in : (bytes : List ℕ) → AreIn s (t.answers bytes) → AreIn s (t.all_answers bytes)
+  all_in bytes all = subst (AreIn s) (sym (append-nil (t.answers bytes))) all
+
+  ends_in : (bytes : List ℕ) (after : Reading) (pieces : List Piece) → AreIn s (t.answers bytes)
+      → Ends t bytes after pieces → AreIn s pieces
+  ends_in bytes after pieces all (inl h) = subst (AreIn s) (sym h.1) (all_in bytes all)
+  ends_in bytes after pieces all (inr (inl h)) = subst (AreIn s) (sym h.1) all
+  ends_in bytes after pieces all (inr (inr h)) = subst (AreIn s) (sym h.1) all
+
+  so_far_in : (bytes : List ℕ) (after : Reading) (pieces : List Piece) → AreIn s (t.answers bytes)
+      → AreSoFar t bytes after pieces → AreIn s pieces
+  so_far_in bytes after pieces all (inl is) = subst (AreIn s) (sym is) all
+  so_far_in bytes after pieces all (inr h) = subst (AreIn s) (sym h.1) (all_in bytes all)
+
+-- however the session ended
+session_stays : (server : Server) (old new : MachineModel) (before after : Reading) (out out' : Writing)
+    (result : Result (Unit {0}) SessionError) → server.session.running ≡ None
+    → (ran : Sessions (course_of conduct server old.state) old new before after out out' result)
+    → only_reads server.framing (bytes_read (course_of conduct server old.state) old new before after out out' result
+    ran) ≡ true → new ≡ old
+session_stays server old new before after out out' (Ok done) r held is =
     let leave = bytes_leave server old.state held.given r is in
-    held.delivers.stands ∙ ap (λ (s : State). record old { state = s })
-    (last_in old.state old.state held.pieces refl (elim held.ends [
-      | inl h ↦ all_in server old.state held.given held.pieces leave.pieces h.1
-      | inr h ↦ elim h [
-        | inl g ↦ subst (AreIn old.state) (sym g.1) leave.pieces
-        | inr g ↦ subst (AreIn old.state) (sym g.1) leave.pieces
-      ]
-    ]))
+    stays_in old new held.pieces (ends_in server old.state held.given after held.pieces leave.pieces held.ends)
+    held.delivers.stands
+session_stays server old new before after out out' (Err Read) r failed is =
+    let leave = bytes_leave server old.state failed.given r is in
+    stays_in old new _ leave.pieces failed.delivers.stands
+session_stays server old new before after out out' (Err Write) r failed is =
+    let leave = bytes_leave server old.state failed.given r is in
+    elim failed.delivers [
+      | inl part ↦ stays_at old new out out' _ (all_in server old.state failed.given leave.pieces) part
+      | inr whole ↦ stays_in old new whole.pieces
+          (so_far_in server old.state failed.given after whole.pieces leave.pieces whole.so_far) whole.delivers.stands
+    ]
+
+pub session_leaves : (limit : ℕ) (board : Numbers) (devices : List Device) (old new : MachineModel)
+    (before after : Reading) (out out' : Writing) (result : Result (Unit {0}) SessionError)
+    → SessionLaw limit board devices old new before after out out' result
+session_leaves limit board devices old new before after out out' result ran is =
+    session_stays (first limit board devices old.state) old new before after out out' result refl ran is

@@ -1,12 +1,13 @@
 -- A session that only reads leaves the machine as it is (profile).
 use Rattle.std.specs.Prelude.{◌≡◌, ℕ, Bool, true, false, ◌&&◌, List, [], ◌∷◌, All, None, Result, Ok, Err}
 use Rattle.debugger_commands.specs.declared.commands.LineError.{LineError}
+use Rattle.devices.specs.declared.device.Device.{Device}
 use Rattle.gdb_packets.specs.declared.framer.Event.{Event}
 use Rattle.gdb_packets.specs.declared.framer.Event.TheVariants as event
-use Rattle.gdb_packets.specs.Framing.{Framing, after, event_of}
+use Rattle.gdb_packets.specs.Framing.{Framing, after, at_start, event_of}
 use Rattle.gdb_packets.specs.Packets.{Packet, packet_of}
 use Rattle.gdb_server.specs.Commands.{command_of}
-use Rattle.gdb_server.specs.Conduct.{Answered, Server, byte_answered, conduct}
+use Rattle.gdb_server.specs.Conduct.{Answered, Server, byte_answered, conduct, first}
 use Rattle.gdb_server.specs.declared.purposes.Purpose.{Purpose}
 use Rattle.gdb_server.specs.declared.purposes.Purpose.TheVariants as purpose
 use Rattle.gdb_server.specs.Purposes.{purpose_of}
@@ -16,10 +17,13 @@ use Rattle.gdb_texts.specs.declared.monitor.Monitor.TheVariants as monitor
 use Rattle.machine.specs.MachineModel.{MachineModel}
 use Rattle.output.specs.Input.{Reading}
 use Rattle.output.specs.Output.{Writing}
+use Rattle.platform.specs.Boards.{Numbers}
 use Rattle.reference.specs.State.{State}
 use Rattle.serving.specs.Conduct.{SessionState, after_bytes, answers, course_of}
 use Rattle.serving.specs.Pieces.{Piece}
-use Rattle.serving.specs.Sessions.{HoldsSession}
+use Rattle.serving.specs.declared.sessions.SessionError.{SessionError}
+use Rattle.serving.specs.declared.sessions.SessionError.TheVariants.{Read, Write}
+use Rattle.serving.specs.Sessions.{Course, Sessions}
 
 -- ---- bytes that only read
 
@@ -114,8 +118,22 @@ abbrev pub BytesLaw : Server → State → List ℕ → Type 0
 BytesLaw server s bytes =
     server.session.running ≡ None → only_reads server.framing bytes ≡ true → LeaveMachine server s bytes
 
--- a whole session whose input only reads leaves the machine as it is
-abbrev pub SessionLaw : Server → MachineModel → MachineModel → Reading → Reading → Writing → Writing → Type 0
-SessionLaw server old new before after out out' =
-    (held : HoldsSession (course_of conduct server old.state) old new before after out out') →
-    server.session.running ≡ None → only_reads server.framing held.given ≡ true → new ≡ old
+-- ---- a whole session of `marm gdb`, from its first byte
+
+abbrev pub session_of : ℕ → Numbers → List Device → State → Course
+session_of limit board devices s = course_of conduct (first limit board devices s) s
+
+-- the bytes that a session read, however it ended
+abbrev pub bytes_read : (t : Course) (old new : MachineModel) (before after : Reading) (out out' : Writing)
+    (result : Result (Unit {0}) SessionError) → Sessions t old new before after out out' result → List ℕ
+bytes_read t old new before after out out' (Ok done) held = held.given
+bytes_read t old new before after out out' (Err Read) failed = failed.given
+bytes_read t old new before after out out' (Err Write) failed = failed.given
+
+-- however it ended: where what it read only reads, the machine is as it was
+abbrev pub SessionLaw : ℕ → Numbers → List Device → MachineModel → MachineModel → Reading → Reading → Writing → Writing
+    → Result (Unit {0}) SessionError → Type 0
+SessionLaw limit board devices old new before after out out' result =
+    (ran : Sessions (session_of limit board devices old.state) old new before after out out' result) →
+    only_reads at_start (bytes_read (session_of limit board devices old.state) old new before after out out' result ran)
+    ≡ true → new ≡ old

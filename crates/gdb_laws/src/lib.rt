@@ -2,7 +2,8 @@
 //! nothing.
 #![tactic(auto)]
 
-ghost use Rattle.std.specs.Prelude.{ℕ, List};
+ghost use Rattle.std.specs.Prelude.{ℕ, List, Result};
+ghost use Rattle.devices.specs.declared.device.Device.{Device};
 ghost use Rattle.gdb.specs.declared.slices.Points.{Points};
 ghost use Rattle.gdb.specs.declared.turns.Run.{Run};
 ghost use Rattle.gdb_laws.specs.BackLaw.{StepBackLaw};
@@ -15,19 +16,22 @@ ghost use Rattle.gdb_texts.specs.declared.settings.Settings.{Settings};
 ghost use Rattle.machine.specs.MachineModel.{MachineModel};
 ghost use Rattle.output.specs.Input.{Reading};
 ghost use Rattle.output.specs.Output.{Writing};
+ghost use Rattle.platform.specs.Boards.{Numbers};
 ghost use Rattle.reference.specs.State.{State};
+ghost use Rattle.serving.specs.declared.sessions.SessionError.{SessionError};
 
 /// A session that only reads leaves the machine: all that it writes is written in the state that the machine had, and
 /// the session's past stays.
 ///
 /// - `byte`: at rest, one byte that doesn't end a packet that writes, runs, runs backwards or starts anew.
 /// - `bytes`: so do many bytes.
-/// - `session`: after a whole session that read such an input, the machine is as it was.
+/// - `session`: after a whole session that read such bytes, however it ended, the machine is as it was.
 pub fn reading_leaves_the_machine()
     ensures byte { (server : Server) (s : State) (byte : ℕ) → ByteLaw server s byte }
     ensures bytes { (server : Server) (s : State) (bytes : List ℕ) → BytesLaw server s bytes }
-    ensures session { (server : Server) (old new : MachineModel) (before after : Reading) (out out' : Writing)
-        → SessionLaw server old new before after out out' }
+    ensures session { (limit : ℕ) (board : Numbers) (devices : List Device) (old new : MachineModel)
+        (before after : Reading) (out out' : Writing) (result : Result (Unit {0}) SessionError)
+        → SessionLaw limit board devices old new before after out out' result }
 {}
 
 /// Each turn of a run makes steps of the machine, and gives GDB's console the text of these steps, as a run of
