@@ -6,7 +6,8 @@ use Rattle.std.proofs.lemmas.List.Elements.{All-append, All-cons, All-nil}
 use Rattle.debugger_commands.specs.declared.commands.LineError.{LineError}
 use Rattle.devices.specs.declared.device.Device.{Device}
 use Rattle.gdb_laws.specs.ReadLaw.{AreIn, ByteLaw, BytesLaw, IsAtRest, LeaveMachine, LeavesMachine, SessionLaw}
-use Rattle.gdb_laws.specs.ReadLaw.{bytes_read, command_reads, event_reads, only_reads, packet_reads, purpose_reads, session_at}
+use Rattle.gdb_laws.specs.ReadLaw.{bytes_read, command_reads, event_reads, only_reads, packet_reads, purpose_reads}
+use Rattle.gdb_laws.specs.ReadLaw.{session_at}
 use Rattle.gdb_packets.specs.declared.framer.Event.{Event}
 use Rattle.gdb_packets.specs.declared.framer.Event.TheVariants as event
 use Rattle.gdb_packets.specs.Framing.{after, event_of, plus}
