@@ -3,6 +3,8 @@ use Rattle.std.proofs.Common.{◌≡◌, ◌∙◌, ◌⊎◌, ℕ, zero, suc, �
 use Rattle.std.proofs.Common.{List, ◌∷◌, Option, Some, None, ap, arith, if◌then◌else◌, inl, inr, refl, subst, sym}
 use Rattle.std.proofs.lemmas.Bool.{cases_lt}
 use Rattle.std.proofs.lemmas.Bool.Decides.{nat_tests}
+use Rattle.gdb.specs.declared.returns.Return.{Return}
+use Rattle.gdb.specs.declared.returns.Return.TheVariants as returning
 use Rattle.gdb.specs.declared.searches.FoundPlace.{FoundPlace}
 use Rattle.gdb.specs.declared.searches.SearchScope.{SearchScope}
 use Rattle.gdb.specs.declared.searches.Way.TheVariants as way
@@ -10,21 +12,22 @@ use Rattle.gdb.specs.declared.slices.Points.{Points}
 use Rattle.gdb.specs.declared.turns.Turn.{Turn}
 use Rattle.gdb.specs.declared.turns.Turn.TheVariants as turning
 use Rattle.gdb.specs.Reasons.{reason_if, reason_or}
-use Rattle.gdb.specs.Returns.{Returned, first_search, low_of, return, returned_to}
+use Rattle.gdb.specs.Returns.{Returned, low_of, returned_to}
 use Rattle.gdb.specs.Searches.{Place, before_mark, ends_unit, found_from, found_if, found_or, last_found, mark_found}
 use Rattle.gdb.specs.Searches.{place_back, place_of, place_or, reason_after_steps, reason_of_next}
 use Rattle.gdb.specs.Turns.{Turned, turn}
 use Rattle.gdb_past.specs.Places.{Past, tick_of}
-use Rattle.gdb_laws.proofs.Units.{IsEarly, OnlyLastEnds, turn_unit}
+use Rattle.gdb_laws.proofs.Units.{EndsIn, EndsWhole, IsEarly, OnlyLastEnds, turn_unit}
 use Rattle.gdb_laws.proofs.Made.{after_both}
-use Rattle.gdb_laws.specs.BackLaw.{EndsUnit, StepBackLaw, StepsTakeTicks}
-use Rattle.gdb_server.specs.Conduct.{first_turn, returned, searched, with_turn}
+use Rattle.gdb_laws.specs.BackLaw.{EndsUnit, IsAlike, MayStepBack, StepAgainLaw, StepBackLaw, StepsTakeTicks}
+use Rattle.gdb_server.specs.Conduct.{first_turn, returned, with_return, with_turn}
 use Rattle.gdb_server.specs.Sessions.{Session}
 use Rattle.gdb_texts.specs.declared.actions.Resume.TheVariants.{Step}
 use Rattle.gdb_texts.specs.declared.settings.Settings.{Settings}
-use Rattle.gdb_texts.specs.declared.stops.Signal.{Signal}
+use Rattle.gdb_texts.specs.declared.stops.Signal.TheVariants.{Trap}
 use Rattle.gdb_texts.specs.declared.stops.StopReason.{StopReason}
 use Rattle.gdb_texts.specs.declared.stops.StopReason.TheVariants as reason
+use Rattle.platform.specs.declared.stop.Stop.{Stop}
 use Rattle.platform.specs.Time.{last_tick}
 use Rattle.reference.specs.Run.{after}
 use Rattle.reference.specs.State.{State}
@@ -201,57 +204,108 @@ counted limit s (suc n) ticks within going early =
     omega (arith, one, before)
 
 -- what a search leaves that ended
-abbrev Back : Session → State → State → Past → Returned → Type 0
-Back j there s past r =
-    (returned j r).session.running ≡ None →
-    (last_state there (returned j r).pieces ≡ s) × ((returned j r).session.past ≡ past)
+abbrev Back : Session → State → State → Returned → Type 0
+Back j there s r = (returned j r).session.running ≡ None → (last_state there r.pieces ≡ s) × (r.past ≡ j.past)
 
 returned_back : (j : Session) (there s : State) (q : SearchScope) (low : ℕ) (m : State) (marks : List State) (n : ℕ)
     (o : Option Place) → j.past.marks ≡ m ∷ marks → s ≡ after n m
     → ((o ≡ Some (place_of (m ∷ marks) m (record { steps = n; reason = reason.Done }))) ⊎ (o ≡ None))
-    → Back j there s j.past (returned_to j.settings j.points j.features j.past q low there o)
+    → Back j there s (returned_to j.settings j.points j.features j.past q low there o)
 returned_back j there s q low m marks n o are is (inl found) =
-    subst (λ (p : Option Place). Back j there s j.past
-    (returned_to j.settings j.points j.features j.past q low there p))
+    subst (λ (p : Option Place). Back j there s (returned_to j.settings j.points j.features j.past q low there p))
     (sym found)
     (λ ended. (sym is, ap (λ (l : List State). let past : Past = record j.past { marks = l } in past) (sym are)))
 returned_back j there s q low m marks n o are is (inr none) =
-    subst (λ (p : Option Place). Back j there s j.past
-    (returned_to j.settings j.points j.features j.past q low there p))
+    subst (λ (p : Option Place). Back j there s (returned_to j.settings j.points j.features j.past q low there p))
     (sym none) (λ ended. absurd cc)
 
--- the session after a step that ended keeps all that the search reads
-after_turn : (k : Session) (there s : State) (o : Turn) (sent : List ℕ)
-    → ((signal : Signal) → Back (with_turn (record k { sent = sent }) (turning.Ends signal)) there s k.past
-    (return k.settings k.points k.features k.past (first_search way.Step (tick_of there)) there))
-    → (with_turn (record k { sent = sent }) o).running ≡ None
-    → (searched (with_turn (record k { sent = sent }) o) there (first_search way.Step (tick_of there))).session.running
-    ≡ None
-    → (last_state there (searched (with_turn (record k { sent = sent }) o) there
-    (first_search way.Step (tick_of there))).pieces ≡ s)
-    × ((searched (with_turn (record k { sent = sent }) o) there
-    (first_search way.Step (tick_of there))).session.past ≡ k.past)
-after_turn k there s (turning.Asks run) sent back ended back_ended = absurd cc
-after_turn k there s (turning.Ends signal) sent back ended back_ended = back signal back_ended
+-- a search leaves the rest of the session
+alike_after : (k j : Session) (o : Return) (sent : List ℕ) (past : Past) → IsAlike k j → past ≡ j.past
+    → IsAlike k (with_return (record j { sent = sent; past = past }) o)
+alike_after k j (returning.Asks search) sent past alike same = record {
+  points = alike.points;
+  settings = alike.settings;
+  features = alike.features;
+  limit = alike.limit;
+  past = same ∙ alike.past;
+}
+alike_after k j (returning.Ends signal) sent past alike same = record {
+  points = alike.points;
+  settings = alike.settings;
+  features = alike.features;
+  limit = alike.limit;
+  past = same ∙ alike.past;
+}
 
-pub back_law : (k : Session) (s : State) (tail : List ℕ) → StepBackLaw k s tail
-back_law k s tail ticks may both =
+pub back_law : (k j : Session) (s : State) (tail more : List ℕ) → StepBackLaw k j s tail more
+back_law k j s tail more ticks may goes =
     let here = may.here in
     let t : Turned = turn k.points k.settings k.features k.limit (first_turn Step) s in
     let unit = turn_unit k.limit k.settings may.into k.points k.features (first_turn Step) s refl refl refl in
     let there : State = last_state s t.pieces in
     let tick : tick_of there ≡ tick_of s + unit.steps =
     ap tick_of unit.state ∙ counted k.limit s unit.steps ticks may.limit unit.going unit.early in
-    let some : 0 < unit.steps = omega (arith, both.made, tick) in
+    let some : 0 < unit.steps = omega (arith, goes.made, tick) in
     let now : tick_of there ≡ tick_of here.mark + (here.steps + unit.steps) = omega (arith, tick, here.tick) in
-    let low : ℕ = low_of k.features (tick_of there) in
-    let found = goes_back k.points k.settings here.mark unit.steps (tick_of there) some here.steps low there
+    let low : ℕ = low_of j.features (tick_of there) in
+    let marks : j.past.marks ≡ here.mark ∷ here.earlier =
+    ap (λ (past : Past). past.marks) goes.alike.past ∙ here.marks in
+    let found = goes_back j.points j.settings here.mark unit.steps (tick_of there) some here.steps low there
     here.earlier now (subst (λ (u : State). OnlyLastEnds u unit.steps) here.state unit.last) here.unit in
-    let found_there = subst (λ (marks : List State).
-    (place_back (scope_of (tick_of there)) k.points k.settings low there marks
+    let found_there = subst (λ (list : List State).
+    (place_back (scope_of (tick_of there)) j.points j.settings low there list
     ≡ Some (place_of (here.mark ∷ here.earlier) here.mark (record { steps = here.steps; reason = reason.Done })))
-    ⊎ (place_back (scope_of (tick_of there)) k.points k.settings low there marks ≡ None)) (sym here.marks) found in
-    let back = after_turn k there s t.outcome t.sent (λ signal.
-    returned_back (with_turn (record k { sent = t.sent }) (turning.Ends signal)) there s (scope_of (tick_of there)) low
-    here.mark here.earlier here.steps _ here.marks here.state found_there) both.ended both.back_ended in
-    record { state = back.0; past = back.1 }
+    ⊎ (place_back (scope_of (tick_of there)) j.points j.settings low there list ≡ None)) (sym marks) found in
+    let back = returned_back j there s (scope_of (tick_of there)) low here.mark here.earlier here.steps _ marks
+    here.state found_there goes.ended in
+    record { state = back.0; alike = alike_after k j _ _ _ goes.alike back.1 }
+
+-- ---- the state after a step
+
+-- the session after a turn
+alike_turn : (k : Session) (o : Turn) (sent : List ℕ) → IsAlike k (with_turn (record k { sent = sent }) o)
+alike_turn k (turning.Asks run) sent =
+    record { points = refl; settings = refl; features = refl; limit = refl; past = refl }
+alike_turn k (turning.Ends signal) sent =
+    record { points = refl; settings = refl; features = refl; limit = refl; past = refl }
+
+may_after : (k : Session) (o : Turn) (sent : List ℕ) (s : State) → MayStepBack k s
+    → MayStepBack (with_turn (record k { sent = sent }) o) s
+may_after k (turning.Asks run) sent s may = record { here = may.here; into = may.into; limit = may.limit }
+may_after k (turning.Ends signal) sent s may = record { here = may.here; into = may.into; limit = may.limit }
+
+-- the unit that it made
+unit_in : (k : Session) (o : Turn) (stop : Option Stop) (X : Type 0) → (with_turn k o).running ≡ None
+    → (with_turn k o).signal ≡ Trap → stop ≡ None → EndsWhole o stop X → X
+unit_in k (turning.Asks run) stop X ended trap goes whole = absurd (let w : ⊥ = cc in w)
+unit_in k (turning.Ends signal) stop X ended trap goes whole = whole trap goes
+
+pub again_law : (k : Session) (s : State) (tail : List ℕ) → StepAgainLaw k s tail
+again_law k s tail ticks may made =
+    let here = may.here in
+    let t : Turned = turn k.points k.settings k.features k.limit (first_turn Step) s in
+    let unit = turn_unit k.limit k.settings may.into k.points k.features (first_turn Step) s refl refl refl in
+    let there : State = last_state s t.pieces in
+    let goes : (after unit.steps s).stop ≡ None = ap (λ (u : State). u.stop) (sym unit.state) ∙ made.going in
+    let ends = unit_in (record k { sent = t.sent }) t.outcome (after unit.steps s).stop (EndsIn s unit.steps) made.ended
+    made.signal goes (unit.whole (made.breakpoints, made.watchpoints)) in
+    let tick : tick_of there ≡ tick_of s + unit.steps =
+    ap tick_of unit.state ∙ counted k.limit s unit.steps ticks may.limit unit.going unit.early in
+    let is = ends.is in
+    let number : here.steps + unit.steps ≡ suc (here.steps + ends.index) = omega (arith, is) in record {
+      may = may_after k t.outcome t.sent there (record {
+        here = record {
+          mark = here.mark;
+          earlier = here.earlier;
+          marks = here.marks;
+          steps = here.steps + unit.steps;
+          state = unit.state ∙ (ap (after unit.steps) here.state ∙ sym (after_both here.steps unit.steps here.mark));
+          tick = omega (arith, tick, here.tick);
+          unit = subst (EndsUnit here.mark) (sym number) (ap ends_unit (after_both here.steps ends.index here.mark
+              ∙ ap (after ends.index) (sym here.state)) ∙ ends.unit);
+        };
+        into = may.into;
+        limit = may.limit;
+      });
+      alike = alike_turn k t.outcome t.sent;
+    }

@@ -1,5 +1,6 @@
 mod Backs
 mod Cuts
+mod Hits
 mod Made
 mod OnlyReading
 mod Traces

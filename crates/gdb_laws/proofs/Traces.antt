@@ -15,13 +15,14 @@ use Rattle.gdb.specs.declared.turns.Turn.{Turn}
 use Rattle.gdb.specs.declared.turns.Turn.TheVariants.{Asks, Ends}
 use Rattle.gdb.specs.Consoles.{Console, console_after, console_with, emptied, with_byte}
 use Rattle.gdb.specs.Over.{is_back}
-use Rattle.gdb.specs.Reasons.{event_hit, first_hit, has_entry, hit_by_access, reason_at_breakpoint}
-use Rattle.gdb.specs.Reasons.{reason_back, reason_if, reason_in_unit, reason_or, stop_reason, watch_reason}
+use Rattle.gdb.specs.Reasons.{has_entry, reason_at_breakpoint, reason_back, reason_if, reason_in_unit, reason_or}
+use Rattle.gdb.specs.Reasons.{stop_reason, watch_reason}
 use Rattle.gdb.specs.Slices.{Flow, Sliced, after_pieces, after_step, at_rest, before_step, counts, one_step}
 use Rattle.gdb.specs.Slices.{reason_then, returns_then, slice, step_piece, unless_ended}
 use Rattle.gdb.specs.Turns.{Turned, asked_or, begun, ended_or, flushed, flushing, max_slice_steps}
 use Rattle.gdb.specs.Turns.{slices, turn, whys, with_pieces}
 use Rattle.gdb.specs.Whys.{has_line, line_begun, needs_line, stop_text, stop_with_line}
+use Rattle.gdb_laws.proofs.Hits.{none_hit}
 use Rattle.gdb_laws.proofs.Made.{TurnFrom, after_sliced, end_turn, on_turn}
 use Rattle.gdb_laws.specs.RunLaw.{Continues, IsTraceOf, TraceLaw, WritesTrace}
 use Rattle.gdb_texts.specs.declared.actions.Resume.TheVariants.{Continue}
@@ -32,11 +33,10 @@ use Rattle.gdb_texts.specs.declared.stops.StopReason.{StopReason}
 use Rattle.gdb_texts.specs.declared.stops.StopReason.TheVariants as reason
 use Rattle.gdb_texts.specs.declared.watchpoints.Watchpoint.{Watchpoint}
 use Rattle.gdb_texts.specs.Stops.{signal_of}
-use Rattle.platform.specs.declared.access.DecidedAccess.{DecidedAccess}
 use Rattle.platform.specs.declared.event.Event.{Event}
 use Rattle.platform.specs.declared.stop.Stop.{Stop}
 use Rattle.platform.specs.declared.stop.Stop.TheVariants.{StepLimit}
-use Rattle.platform.specs.Events.{access_of, event_text, line}
+use Rattle.platform.specs.Events.{event_text, line}
 use Rattle.platform.specs.Events as events
 use Rattle.platform.specs.Text.{stop_line}
 use Rattle.reference.specs.Run.{after}
@@ -130,21 +130,6 @@ after_stop : (stop : Option Stop) (away done : Bool)
     → IsStop (reason_or (stop_reason stop) (reason_if (not away && (done && false)) reason.Done)) stop
 after_stop (Some why) away done = refl
 after_stop None away done = none_left _ None (ap (λ (b : Bool). reason_if b reason.Done) (no_exit away done))
-
--- ---- nothing is hit
-
-none_of : (a : DecidedAccess) (b : Bool) → is_some a.refused ≡ b → hit_by_access [] (Some a) ≡ None
-none_of a true is = rw is refl
-none_of a false is = rw is refl
-
-none_by : (o : Option DecidedAccess) → hit_by_access [] o ≡ None
-none_by None = refl
-none_by (Some a) = none_of a (is_some a.refused) refl
-
-none_hit : (es : List Event) → first_hit [] es ≡ None
-unfolding first_hit
-none_hit [] = refl
-none_hit (e ∷ es) = (let is : event_hit [] e.what ≡ None = none_by (access_of e.what) in rw is (none_hit es))
 
 -- ---- a slice
 

@@ -6,7 +6,7 @@ ghost use Rattle.std.specs.Prelude.{ℕ, List, Result};
 ghost use Rattle.devices.specs.declared.device.Device.{Device};
 ghost use Rattle.gdb.specs.declared.slices.Points.{Points};
 ghost use Rattle.gdb.specs.declared.turns.Run.{Run};
-ghost use Rattle.gdb_laws.specs.BackLaw.{StepBackLaw};
+ghost use Rattle.gdb_laws.specs.BackLaw.{StepAgainLaw, StepBackLaw};
 ghost use Rattle.gdb_laws.specs.ReadLaw.{ByteLaw, BytesLaw, SessionLaw};
 ghost use Rattle.gdb_laws.specs.RunLaw.{TraceLaw, TurnLaw};
 ghost use Rattle.gdb_server.specs.Conduct.{Server};
@@ -50,8 +50,14 @@ pub fn continue_writes_the_trace()
         → TraceLaw points k features limit run s }
 {}
 
-/// A step, and then a step back, leave the machine and the past as they were, from a state that is the last mark or the
-/// end of a unit after it: where the step was made, neither asks GDB a question, and steps enter handlers.
+/// A step is undone by a step back, from a state that is the last mark, or the end of a unit after it, where steps
+/// enter handlers.
+///
+/// - `back`: where the step was made, and the step back asks GDB no question, the machine is in its state again. The
+///   session is then like that before the step: its points, settings and past are the same.
+/// - `again`: a step that makes a unit, and isn't stopped by anything else, leads to such a state again, in such a
+///   session. So several steps are undone by as many steps back.
 pub fn a_step_back_undoes_a_step()
-    ensures { (k : Session) (s : State) (tail : List ℕ) → StepBackLaw k s tail }
+    ensures back { (k j : Session) (s : State) (tail more : List ℕ) → StepBackLaw k j s tail more }
+    ensures again { (k : Session) (s : State) (tail : List ℕ) → StepAgainLaw k s tail }
 {}

@@ -1,5 +1,8 @@
-use Rattle.gdb_laws.proofs.Backs.{back_law}
+use Rattle.gdb_laws.proofs.Backs.{again_law, back_law}
 use Rattle.gdb_laws.proofs.a_step_back_undoes_a_step.Goals as goal
 
-pub returns : goal.returns
-returns c = back_law
+pub returns-clause-back : goal.returns-clause-back
+returns-clause-back c = back_law
+
+pub returns-clause-again : goal.returns-clause-again
+returns-clause-again c = again_law
