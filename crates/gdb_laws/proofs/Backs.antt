@@ -19,7 +19,7 @@ use Rattle.gdb.specs.Turns.{Turned, turn}
 use Rattle.gdb_past.specs.Places.{Past, tick_of}
 use Rattle.gdb_laws.proofs.Units.{EndsIn, EndsWhole, IsEarly, OnlyLastEnds, turn_unit}
 use Rattle.gdb_laws.proofs.Made.{after_both}
-use Rattle.gdb_laws.specs.BackLaw.{EndsUnit, IsAlike, MayStepBack, StepAgainLaw, StepBackLaw, StepsTakeTicks}
+use Rattle.gdb_laws.specs.BackLaw.{EndsUnit, IsAlike, MayStepBack, StepAgainLaw, StepBackLaw}
 use Rattle.gdb_server.specs.Conduct.{first_turn, returned, with_return, with_turn}
 use Rattle.gdb_server.specs.Sessions.{Session}
 use Rattle.gdb_texts.specs.declared.actions.Resume.TheVariants.{Step}
@@ -33,6 +33,7 @@ use Rattle.reference.specs.Run.{after}
 use Rattle.reference.specs.State.{State}
 use Rattle.reference.specs.Step.{step}
 use Rattle.serving.specs.Pieces.{last_state}
+use Rattle.step_laws.specs.TickLaw.{TakesTick}
 
 -- ---- the places after a mark, from the last one down
 
@@ -191,7 +192,7 @@ module _ (points : Points) (k : Settings) (m : State) (n now : ℕ) (some : 0 < 
 -- ---- a step and a step back
 
 -- the clock after some steps
-counted : (limit : ℕ) (s : State) (n : ℕ) → StepsTakeTicks → limit ≤ last_tick
+counted : (limit : ℕ) (s : State) (n : ℕ) → ((u : State) → TakesTick u) → limit ≤ last_tick
     → ((i : ℕ) → i < n → (after i s).stop ≡ None) → IsEarly limit s n → tick_of (after n s) ≡ tick_of s + n
 unfolding after
 counted limit s zero ticks within going early = omega arith
@@ -237,8 +238,8 @@ alike_after k j (returning.Ends signal) sent past alike same = record {
   past = same ∙ alike.past;
 }
 
-pub back_law : (k j : Session) (s : State) (tail more : List ℕ) → StepBackLaw k j s tail more
-back_law k j s tail more ticks may goes =
+pub back_law : ((u : State) → TakesTick u) → (k j : Session) (s : State) (tail more : List ℕ) → StepBackLaw k j s tail more
+back_law ticks k j s tail more may goes =
     let here = may.here in
     let t : Turned = turn k.points k.settings k.features k.limit (first_turn Step) s in
     let unit = turn_unit k.limit k.settings may.into k.points k.features (first_turn Step) s refl refl refl in
@@ -280,8 +281,8 @@ unit_in : (k : Session) (o : Turn) (stop : Option Stop) (X : Type 0) → (with_t
 unit_in k (turning.Asks run) stop X ended trap goes whole = absurd (let w : ⊥ = cc in w)
 unit_in k (turning.Ends signal) stop X ended trap goes whole = whole trap goes
 
-pub again_law : (k : Session) (s : State) (tail : List ℕ) → StepAgainLaw k s tail
-again_law k s tail ticks may made =
+pub again_law : ((u : State) → TakesTick u) → (k : Session) (s : State) (tail : List ℕ) → StepAgainLaw k s tail
+again_law ticks k s tail may made =
     let here = may.here in
     let t : Turned = turn k.points k.settings k.features k.limit (first_turn Step) s in
     let unit = turn_unit k.limit k.settings may.into k.points k.features (first_turn Step) s refl refl refl in

@@ -11,7 +11,6 @@ use Rattle.gdb_texts.specs.declared.stops.Signal.TheVariants.{Trap}
 use Rattle.platform.specs.Time.{last_tick}
 use Rattle.reference.specs.Run.{after}
 use Rattle.reference.specs.State.{State}
-use Rattle.reference.specs.Step.{step}
 use Rattle.serving.specs.Pieces.{last_state}
 
 -- a number of steps after a mark is the mark itself, or the end of a unit
@@ -29,10 +28,6 @@ pub record IsUnitEnd (past : Past) (s : State) : Type 0 where
   pub state : s ≡ after steps mark
   pub tick : tick_of s ≡ tick_of mark + steps
   pub unit : EndsUnit mark steps
-
--- each step takes a tick, of a machine that hasn't stopped and whose clock isn't at its end
-abbrev pub StepsTakeTicks : Type 0
-StepsTakeTicks = (s : State) → s.stop ≡ None → tick_of s < last_tick → tick_of (step s).state ≡ tick_of s + 1
 
 -- `s`, and the state after an answer
 abbrev pub stepped : Session → State → List ℕ → Answered
@@ -74,7 +69,7 @@ pub record IsBack (k : Session) (s there : State) (back : Answered) : Type 0 whe
 
 abbrev pub StepBackLaw : Session → Session → State → List ℕ → List ℕ → Type 0
 StepBackLaw k j s tail more =
-    StepsTakeTicks → MayStepBack k s → GoesBack k j s (state_after s (stepped k s tail)) more →
+    MayStepBack k s → GoesBack k j s (state_after s (stepped k s tail)) more →
     IsBack k s (state_after s (stepped k s tail)) (stepped_back j (state_after s (stepped k s tail)) more)
 
 -- ---- and again
@@ -94,5 +89,4 @@ pub record MayStepAgain (k : Session) (s : State) (step : Answered) : Type 0 whe
   pub alike : IsAlike k step.session
 
 abbrev pub StepAgainLaw : Session → State → List ℕ → Type 0
-StepAgainLaw k s tail =
-    StepsTakeTicks → MayStepBack k s → MakesUnit k s tail → MayStepAgain k s (stepped k s tail)
+StepAgainLaw k s tail = MayStepBack k s → MakesUnit k s tail → MayStepAgain k s (stepped k s tail)
