@@ -19,7 +19,7 @@ abbrev pub performed_by : State → List Request → ListResult
 performed_by s requests = perform_all s.registers.exception s.bus.system.time.ticks s.bus requests
 
 -- the values that a list of accesses returned, or the failure that ended it early
-abbrev pub AllPerformed : ListResult → Bounded ℕ → Result (Unit {0}) Failure → Type 0
+abbrev pub AllPerformed : {A : Type 0} → ListResult → Bounded ℕ → Result A Failure → Type 0
 AllPerformed all values (Ok done) = (all.failure ≡ None) × (values.items ≡ all.values)
 AllPerformed all values (Err why) = all.failure ≡ Some why
 

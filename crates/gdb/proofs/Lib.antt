@@ -5,3 +5,4 @@ mod NeededLines
 mod Turning
 mod Searching
 mod Returning
+mod Unwatched

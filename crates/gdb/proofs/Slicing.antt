@@ -27,15 +27,6 @@ use Rattle.serving.specs.Pieces.{Piece, DeliversAll, DeliversPart, last_state}
 use Rattle.trace.specs.declared.selection.TraceSelection.{TraceSelection}
 use Rattle.trace.specs.Selection.{selected_text}
 
--- no access hits a watchpoint where there is none
-none_of : (a : DecidedAccess) (b : Bool) → is_some a.refused ≡ b → hit_by_access [] (Some a) ≡ None
-none_of a true is = rw is refl
-none_of a false is = rw is refl
-
-none_by : (o : Option DecidedAccess) → hit_by_access [] o ≡ None
-none_by None = refl
-none_by (Some a) = none_of a (is_some a.refused) refl
-
 -- ---- the cases of a step
 
 -- a watchpoint is hit
@@ -65,19 +56,6 @@ back_at None s has = absurd (let wrong : false ≡ true = has in cc)
 pub past_it : (o : Option StopReason) (s : State) → is_some o ≡ false → state_unless o s ≡ (step s).state
 past_it (Some r) s has = absurd (let wrong : true ≡ false = has in cc)
 past_it None s has = refl
-
--- without watchpoints nothing is hit
-none_hit : (events : List Event) → first_hit [] events ≡ None
-unfolding first_hit
-none_hit [] = refl
-none_hit (e ∷ es) = (let is : event_hit [] e.what ≡ None = none_by (access_of e.what) in rw is (none_hit es))
-
-pub none_watched : (watchpoints : List Watchpoint) (events : List Event) → (length watchpoints == 0) ≡ true
-    → watch_reason (first_hit watchpoints events) ≡ None
-none_watched [] events empty = ap watch_reason (none_hit events)
-none_watched (w ∷ ws) events empty =
-    let none : length (w ∷ ws) ≡ 0 = grind (arith, nat_tests) in
-    absurd (omega arith)
 
 -- the step's text was cut
 pub step_cut : (p : Plan) (points : Points) (f : Flow) (o : Option StopReason) (k : TraceSelection)

@@ -1,13 +1,12 @@
 //! Turns of going back: up to a question to GDB, or to a place in the past.
 
 ghost use Rattle.std.specs.Prelude.{◌≡◌, ◌-◌, ◌<◌, [], ◌∷◌, false, true, IfOk, OnOk, None, drop, length};
-ghost use Rattle.std.specs.Prelude.{slice_index_or};
 ghost use Rattle.gdb.specs.declared.returns.Return.TheVariants.{Asks, Ends};
 ghost use Rattle.gdb.specs.Consoles.{console_from};
 ghost use Rattle.gdb.specs.Returns.{Returns, first_search, flow_at, low_of, return};
 ghost use Rattle.gdb.specs.Searches.{events_for, is_of_step};
 ghost use Rattle.gdb.specs.Turns.{ended, poll_packet, said, stop_packet};
-ghost use Rattle.gdb_past.specs.Places.{AreOfOneMachine};
+ghost use Rattle.gdb_past.specs.Places.{AreOfOneMachine, mark_of};
 ghost use Rattle.gdb_past.specs.Ways.{IsAfterMark};
 ghost use Rattle.gdb_texts.specs.Stops.{signal_of};
 ghost use Rattle.reference.specs.Run.{after};
@@ -95,10 +94,10 @@ fn reach<D: Decider, C: KeptCode, L: Exceptions, U: SysTickState>(
     requires events { progress.old.events ≡ [] }
     ensures past { past.new ≡ past.old }
     ensures events { (s : State) → progress.new ≡ record progress.old {
-      events = events_for found.reason (slice_index_or past.old.marks 0 s) found.steps;
+      events = events_for found.reason (mark_of past.old 0 s) found.steps;
     } }
     ensures state { (s : State) → machine.new
-        ≡ record machine.old { state = after found.steps (slice_index_or past.old.marks 0 s) } }
+        ≡ record machine.old { state = after found.steps (mark_of past.old 0 s) } }
     ensures same { AreOfOneMachine past.old.start machine.new.state }
 {
     let before = found.steps.saturating_sub(1);
@@ -106,9 +105,7 @@ fn reach<D: Decider, C: KeptCode, L: Exceptions, U: SysTickState>(
     if found.steps > 0 {
         progress.repeat(machine);
     }
-    if !is_of_step(found.reason) {
-        progress.forget();
-    }
+    progress.forget_unless(is_of_step(found.reason));
 }
 
 /// Takes the machine to a place in its past, and forgets what was kept from later ones.
@@ -123,10 +120,10 @@ fn arrive<D: Decider, C: KeptCode, L: Exceptions, U: SysTickState>(
     requires events { progress.old.events ≡ [] }
     ensures past { past.new ≡ record past.old { marks = drop target.number past.old.marks } }
     ensures events { (s : State) → progress.new ≡ record progress.old {
-      events = events_for target.found.reason (slice_index_or past.old.marks target.number s) target.found.steps;
+      events = events_for target.found.reason (mark_of past.old target.number s) target.found.steps;
     } }
     ensures state { (s : State) → machine.new ≡ record machine.old {
-      state = after target.found.steps (slice_index_or past.old.marks target.number s);
+      state = after target.found.steps (mark_of past.old target.number s);
     } }
     ensures same { AreOfOneMachine past.old.start machine.new.state }
     ensures ahead { IsAfterMark past.new machine.new.state }

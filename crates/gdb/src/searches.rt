@@ -1,18 +1,18 @@
 //! Searches in the past of a machine, for the last place at which a run backwards ends.
 
 ghost use Rattle.std.specs.Prelude.{◌≡◌, ◌+◌, ◌-◌, ◌<◌, ◌^◌, ◌&&◌, ◌||◌, if◌then◌else◌, nat_lt, IfSome, None, drop};
-ghost use Rattle.std.specs.Prelude.{length, option_map, slice_index_or};
+ghost use Rattle.std.specs.Prelude.{length, option_map};
 ghost use Rattle.gdb.specs.Reasons.{first_hit, has_entry, reason_if, reason_of_events, reason_or, watch_reason};
 ghost use Rattle.gdb.specs.Searches.{found_from, found_if, last_found, mark_found, place_back, place_of};
 ghost use Rattle.gdb.specs.Searches.{reason_of_mark, reason_of_next, reason_of_step, reason_there};
-ghost use Rattle.gdb_past.specs.Places.{AreOfOneMachine, tick_of};
+ghost use Rattle.gdb_past.specs.Places.{AreOfOneMachine, mark_of, tick_of};
 ghost use Rattle.gdb_texts.specs.declared.stops.StopReason.TheVariants.{Done};
 ghost use Rattle.reference.specs.Run.{after};
 ghost use Rattle.reference.specs.State.{State};
 ghost use Rattle.reference.specs.Step.{step};
 
 use crate::slices::Points;
-use crate::steps::{first_hit, has_entry, reason_at_breakpoint, reason_of_events};
+use crate::steps::{has_entry, reason_at_breakpoint, reason_of_events, reason_of_hit};
 use gdb_past::Past;
 use gdb_texts::{Settings, StopReason};
 use machine::{
@@ -75,13 +75,16 @@ fn reason_of_stop(
     ensures { result ≡ reason_or (watch_reason (first_hit points.now.watchpoints events.now))
         (if before then reason_of_events settings.now events.now else None) }
 {
-    if let Some(hit) = first_hit(&points.watchpoints, events) {
-        return Some(StopReason::Watchpoint(hit.kind, hit.address));
+    match reason_of_hit(&points.watchpoints, events) {
+        Some(reason) => Some(reason),
+        None => {
+            if before {
+                reason_of_events(settings, events)
+            } else {
+                None
+            }
+        }
     }
-    if before {
-        return reason_of_events(settings, events);
-    }
-    None
 }
 
 /// Makes a step. Returns why a run backwards ends at its end, if it does.
@@ -215,9 +218,9 @@ fn found_between<D: Decider, C: KeptCode, L: Exceptions, U: SysTickState>(
 ) -> Option<FoundPlace>
     requires number { number < length past.old.marks }
     requires fits { AreOfOneMachine past.old.start machine.old.state }
-    requires room { (m : State) → tick_of (slice_index_or past.old.marks number m) + high < 2 ^ 64 }
+    requires room { (m : State) → tick_of (mark_of past.old number m) + high < 2 ^ 64 }
     ensures found { (m : State) → result ≡ last_found scope points.now settings.now
-        (slice_index_or past.old.marks number m) low (high - low) }
+        (mark_of past.old number m) low (high - low) }
     ensures past { past.new ≡ past.old }
     ensures same { AreOfOneMachine past.old.start machine.new.state }
     ensures kept { machine.new.broken ≡ machine.old.broken }
@@ -285,7 +288,7 @@ fn found_from<D: Decider, C: KeptCode, L: Exceptions, U: SysTickState>(
     requires number { number < length past.old.marks }
     requires fits { AreOfOneMachine past.old.start machine.old.state }
     ensures found { (m : State) → result ≡ found_from scope points.now settings.now low
-        (slice_index_or past.old.marks number m) }
+        (mark_of past.old number m) }
     ensures past { past.new ≡ past.old }
     ensures same { AreOfOneMachine past.old.start machine.new.state }
     ensures kept { machine.new.broken ≡ machine.old.broken }
@@ -318,7 +321,7 @@ pub fn place_back<D: Decider, C: KeptCode, L: Exceptions, U: SysTickState>(
 ) -> Option<ReverseTarget>
     requires { AreOfOneMachine past.old.start machine.old.state }
     ensures place { (s : State) → option_map (λ target. place_of (drop target.number past.old.marks)
-        (slice_index_or past.old.marks target.number s) target.found) result
+        (mark_of past.old target.number s) target.found) result
         ≡ place_back scope points.now settings.now low s past.old.marks }
     ensures number { IfSome result (λ target. target.number < length past.old.marks) }
     ensures past { past.new ≡ past.old }

@@ -1,6 +1,6 @@
 //! The steps of a run, up to a reason to stop.
 
-ghost use Rattle.std.specs.Prelude.{◌≡◌, ◌+◌, ◌-◌, ◌^◌, ◌<◌, [], ◌∷◌, IfOk, OnOk};
+ghost use Rattle.std.specs.Prelude.{◌≡◌, ◌+◌, ◌-◌, ◌^◌, ◌<◌, [], ◌∷◌, if◌then◌else◌, IfOk, OnOk};
 ghost use Rattle.gdb.specs.Consoles.{ShowsText, console_after, console_from, emptied, flush_text};
 ghost use Rattle.gdb.specs.Slices.{Slices, flow, hit_next, one_step, returns_then, slice};
 ghost use Rattle.gdb.specs.Watching.{IsReady, state_unless};
@@ -139,6 +139,15 @@ impl Progress {
         ensures state { machine.new ≡ record machine.old { state = (step machine.old.state).state } }
     {
         let _ = machine.step(&mut self.events);
+    }
+
+    /// Forgets the events of the last step, unless they are needed.
+    pub fn forget_unless(&mut self, is_needed: bool)
+        ensures { self.new ≡ record self.old { events = if is_needed then self.old.events else [] } }
+    {
+        if !is_needed {
+            self.forget();
+        }
     }
 
     /// Forgets the events of the last step.

@@ -1,13 +1,14 @@
 //! The text of a step of a run, and whether the run ends before or after it.
 
-ghost use Rattle.std.specs.Prelude.{◌≡◌, [], ◌∷◌, is_some};
+ghost use Rattle.std.specs.Prelude.{◌≡◌, [], ◌∷◌, is_some, true};
 ghost use Rattle.gdb.specs.Consoles.{ShowsText};
 ghost use Rattle.gdb.specs.Reasons.{cause_of, event_hit, first_cause, first_hit, has_entry, has_fault, is_continue};
 ghost use Rattle.gdb.specs.Reasons.{is_entry, leaves, reason_after, reason_at_breakpoint, reason_back, reason_before};
 ghost use Rattle.gdb.specs.Reasons.{reason_in_unit, reason_of_events, selection_of};
-ghost use Rattle.gdb.specs.Reasons.{tests_breakpoints};
+ghost use Rattle.gdb.specs.Reasons.{tests_breakpoints, watch_reason};
+ghost use Rattle.gdb_texts.specs.Watchpoints.{hit_of};
 ghost use Rattle.platform.specs.Events.{recorded_fault_of};
-ghost use Rattle.trace.specs.Selection.{kinds_text, selected_text};
+ghost use Rattle.trace.specs.Selection.{kinds_text, selected_text, selects};
 
 use crate::console::Console;
 use crate::over::{ReturnPoint, is_back};
@@ -18,7 +19,7 @@ use machine::{
     is_instruction,
 };
 use output::{IoError, Out};
-use platform::access::Cause;
+use platform::access::{Access, Cause, Kind};
 use platform::event::EventKind;
 use platform::stop::Stop;
 
@@ -35,6 +36,28 @@ pub fn selection_of(lines: LineSelection) -> TraceSelection
     }
 }
 
+/// Puts the text of an event of a kind that a selection has. A call of its own, so that the others, which most events
+/// are, cost no room for a line.
+#[inline(never)]
+fn put_selected<W: Out>(
+    selection: TraceSelection,
+    event: &Event,
+    console: &mut Console,
+    out: &mut W,
+) -> Result<(), IoError>
+    requires { selects selection event.now.what ≡ true }
+    ensures { ShowsText (W.writing out.old) (W.writing out.new) console.old console.new
+        (kinds_text selection (event.now ∷ [])) result }
+{
+    if selection.writes_bytes() {
+        return match event.what.byte() {
+            Some(byte) => console.put(&[byte], out),
+            None => Ok(()),
+        };
+    }
+    console.put(event_line(event).as_slice(), out)
+}
+
 /// Puts the text of an event, where a selection has events of its kind.
 fn put_event<W: Out>(
     selection: TraceSelection,
@@ -48,13 +71,7 @@ fn put_event<W: Out>(
     if !selection.selects(&event.what) {
         return Ok(());
     }
-    if selection.writes_bytes() {
-        return match event.what.byte() {
-            Some(byte) => console.put(&[byte], out),
-            None => Ok(()),
-        };
-    }
-    console.put(event_line(event).as_slice(), out)
+    put_selected(selection, event, console, out)
 }
 
 /// Puts the text of those events that are of the kinds that a selection has.
@@ -116,6 +133,19 @@ pub fn first_cause(events: &[Event]) -> Option<Cause>
     None
 }
 
+/// Returns what a granted access hits, if it hits a watchpoint. There are none for fetches and probes.
+#[tactic(auto, using(crate::proofs::Unwatched::fetch_hits_none, crate::proofs::Unwatched::probe_hits_none))]
+fn granted_hit(watchpoints: &Watchpoints, access: &Access) -> Option<WatchHit>
+    ensures { result ≡ hit_of watchpoints.now access.now }
+{
+    match access.kind {
+        Kind::Fetch | Kind::Probe => None,
+        Kind::Load | Kind::Store | Kind::Push | Kind::Pop | Kind::Vector => {
+            watchpoints.hit_of(access)
+        }
+    }
+}
+
 /// Returns what an event hits, if it is a granted access that hits a watchpoint.
 pub fn event_hit(watchpoints: &Watchpoints, what: &EventKind) -> Option<WatchHit>
     ensures { result ≡ event_hit watchpoints.now what.now }
@@ -125,7 +155,7 @@ pub fn event_hit(watchpoints: &Watchpoints, what: &EventKind) -> Option<WatchHit
             if decided.refused.is_some() {
                 None
             } else {
-                watchpoints.hit_of(&decided.access)
+                granted_hit(watchpoints, &decided.access)
             }
         }
         EventKind::ConsoleByte(_)
@@ -147,6 +177,20 @@ pub fn first_hit(watchpoints: &Watchpoints, events: &[Event]) -> Option<WatchHit
         }
     }
     None
+}
+
+/// Returns why a run ends for what the events of a step hit, if they hit a watchpoint.
+#[tactic(auto, using(crate::proofs::Unwatched::none_watched))]
+pub fn reason_of_hit(watchpoints: &Watchpoints, events: &[Event]) -> Option<StopReason>
+    ensures { result ≡ watch_reason (first_hit watchpoints.now events.now) }
+{
+    if watchpoints.is_empty() {
+        return None;
+    }
+    match first_hit(watchpoints, events) {
+        Some(hit) => Some(StopReason::Watchpoint(hit.kind, hit.address)),
+        None => None,
+    }
 }
 
 /// Returns whether the event is a fault that was recorded.
@@ -187,14 +231,13 @@ pub fn has_entry(events: &[Event]) -> bool
 pub fn reason_of_events(settings: &Settings, events: &[Event]) -> Option<StopReason>
     ensures { result ≡ reason_of_events settings.now events.now }
 {
-    let cause = first_cause(events);
     if settings.refused
-        && let Some(cause) = cause
+        && let Some(cause) = first_cause(events)
     {
         return Some(StopReason::Refused(cause));
     }
     if settings.faults && has_fault(events) {
-        return match cause {
+        return match first_cause(events) {
             Some(cause) => Some(StopReason::Refused(cause)),
             None => Some(StopReason::Fault),
         };
@@ -219,6 +262,7 @@ fn leaves(how: Resume, pc: u32) -> bool
 /// Returns why a run ends after a step, which was an Instruction step or not, with these events. `is_away` is whether
 /// its unit is away from the code that it returns to, `stop` why the machine has stopped by then, and `pc` the address
 /// of the next instruction.
+#[tactic(auto, using(std::proofs::lemmas::Bool::and_right))]
 pub fn reason_after(
     settings: &Settings,
     how: Resume,
@@ -236,7 +280,7 @@ pub fn reason_after(
     if let Some(reason) = reason_of_events(settings, events) {
         return Some(reason);
     }
-    if !is_away && ((was_instruction || has_entry(events)) && leaves(how, pc)) {
+    if !is_away && (leaves(how, pc) && (was_instruction || has_entry(events))) {
         return Some(StopReason::Done);
     }
     None
@@ -260,12 +304,16 @@ fn tests_breakpoints(how: Resume, made: u64) -> bool
 }
 
 /// Returns the reason of a breakpoint before the next step, if one is there.
+#[tactic(auto, using(crate::proofs::Unwatched::no_breakpoint))]
 pub fn reason_at_breakpoint<D: Decider, C: KeptCode, L: Exceptions, U: SysTickState>(
     points: &Breakpoints,
     machine: &Machine<D, C, L, U>,
 ) -> Option<StopReason>
     ensures { result ≡ reason_at_breakpoint points.now machine.now.state }
 {
+    if points.is_empty() {
+        return None;
+    }
     match points.kind_at(machine.execution().pc) {
         Some(kind) if is_instruction(machine.next_kind()) => Some(StopReason::Breakpoint(kind)),
         Some(_) | None => None,

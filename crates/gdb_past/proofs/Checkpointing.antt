@@ -5,7 +5,7 @@ use Rattle.std.proofs.lemmas.List.{length-replicate, length-set}
 use Rattle.std.proofs.lemmas.List.Elements.{All-replicate, All-set}
 use Rattle.gdb_past.proofs.Following.{after_from, after_none, same_after, same_refl, same_sym, same_trans}
 use Rattle.gdb_past.specs.Checkpoints.{AreRight, Checkpoint, Checkpoints, IsNear, IsRight}
-use Rattle.gdb_past.specs.Places.{AreOfOneMachine}
+use Rattle.gdb_past.specs.Places.{AreOfOneMachine, Past, mark_of}
 use Rattle.machine.specs.MachineModel.{MachineModel}
 use Rattle.reference.specs.Run.{after}
 use Rattle.reference.specs.State.{State}
@@ -97,6 +97,12 @@ fit_all start m s cs h fits =
     (λ c f. same_trans s start c.state (same_sym start s fits) f) h.fits
 
 -- ---- the machine on its way
+
+-- a machine is `at` steps after the last mark, and checkpoints alone were kept
+pub record IsOnItsWay (first now : Past) (old new : MachineModel) (at to : ℕ) : Type 0 where
+  pub past : now ≡ first
+  pub few : at ≤ to
+  pub machine : (m : State) → new ≡ record old { state = after at (mark_of first 0 m) }
 
 pub moved_on : (old mid new : MachineModel) (s t : State) → mid ≡ record old { state = s }
     → new ≡ record mid { state = t } → new ≡ record old { state = t }

@@ -1,6 +1,6 @@
 -- What is kept of a machine's past (profile).
 use Rattle.reference.specs.State.{State}
-use Rattle.std.specs.Prelude.{◌≡◌, ℕ, suc, nat_lt, Bool, if◌then◌else◌, List, [], ◌∷◌, length, take}
+use Rattle.std.specs.Prelude.{◌≡◌, ℕ, suc, nat_lt, Bool, if◌then◌else◌, List, [], ◌∷◌, length, slice_index_or, take}
 use Rattle.devices.specs.declared.device.Device.{Device}
 use Rattle.devices.specs.Devices.{DeviceWords}
 use Rattle.platform.specs.Memory.{Memory}
@@ -11,6 +11,10 @@ pub record Past : Type 0 where
   -- the states to which a session can go back, the last one first: after the last write at each tick at which something
   -- was written, and before them the state before the first step
   pub marks : List State
+
+-- a mark, by its number from the last one, and m where there are fewer
+abbrev pub mark_of : Past → ℕ → State → State
+mark_of past number m = slice_index_or past.marks number m
 
 abbrev pub tick_of : State → ℕ
 tick_of s = s.bus.system.time.ticks

@@ -1,8 +1,8 @@
 //! What a session keeps of a machine's past.
 
-ghost use Rattle.std.specs.Prelude.{◌≡◌, ℕ, ◌<◌, ◌≤◌, ◌∷◌, drop, length, slice_index_or, take, IfOk, None};
+ghost use Rattle.std.specs.Prelude.{◌≡◌, ℕ, ◌<◌, ◌≤◌, ◌∷◌, drop, length, take, IfOk, None};
 ghost use Rattle.gdb_past.specs.Checkpoints.{max_checkpoints};
-ghost use Rattle.gdb_past.specs.Places.{AreOfOneMachine, below, marked, max_marks, past_from, tick_of};
+ghost use Rattle.gdb_past.specs.Places.{AreOfOneMachine, below, mark_of, marked, max_marks, past_from, tick_of};
 ghost use Rattle.gdb_past.specs.Ways.{IsAfterMark};
 ghost use Rattle.reference.specs.Run.{after};
 ghost use Rattle.reference.specs.State.{State};
@@ -25,10 +25,9 @@ const MIN_SPACING: u64 = 262_144;
 
 /// The distance of the checkpoints of a machine that goes forward: one is kept at each tick that it divides, if only
 /// for a while.
-const FORWARD_SPACING: u64 = 32_768;
+const FORWARD_SPACING: u64 = 131_072;
 
-/// How many levels these have: those of the next level are eight times as far apart. Of each the last two stay, in the
-/// slots 0 to 9.
+/// How many levels these have: those of the next level are four times as far apart. Of each the last three stay.
 const LEVELS: usize = 5;
 
 /// The number of the slots. The last four are for checkpoints near the place that is gone to.
@@ -94,21 +93,21 @@ impl<L: Exceptions, U: SysTickState> Mark<L, U> {
     }
 }
 
-/// Returns the slot of the checkpoint of a tick: two for each level, in turn. At the ticks that eight times the spacing
-/// of a level divides are those of the next level.
+/// Returns the slot of the checkpoint of a tick: three for each level, in turn, those of the lowest level at the end,
+/// where the checkpoints near a place are. At the ticks that four times the spacing of a level divides are those of the
+/// next level.
 fn slot_ahead(tick: u64) -> usize
     ensures { result < max_checkpoints }
 {
     let mut rank = tick / FORWARD_SPACING;
     let mut level = 0;
     'levels: for next in 1..LEVELS {
-        if rank % 8 == 0 {
-            rank /= 8;
+        if rank % 4 == 0 {
+            rank /= 4;
             level = next;
         }
     }
-    let is_odd = (rank - rank / 8) % 2 == 1;
-    if is_odd { 2 * level + 1 } else { 2 * level }
+    SLOTS - 1 - (3 * level + (rank % 4) as usize)
 }
 
 /// What a session keeps of a machine's past.
@@ -171,7 +170,7 @@ impl<L: Exceptions, U: SysTickState> Past<L, U> {
     /// Returns the tick of a mark, by its number from the last one.
     pub fn tick(&self, number: usize) -> u64
         requires { number < length self.now.marks }
-        ensures { (m : State) → result ≡ tick_of (slice_index_or self.now.marks number m) }
+        ensures { (m : State) → result ≡ tick_of (mark_of self.now number m) }
     {
         self.marks[number].tick()
     }
@@ -188,7 +187,7 @@ impl<L: Exceptions, U: SysTickState> Past<L, U> {
         requires fits { AreOfOneMachine self.now.start machine.old.state }
         ensures few { result ≤ most }
         ensures state { (m : State) → machine.new
-            ≡ record machine.old { state = after result (slice_index_or self.now.marks number m) } }
+            ≡ record machine.old { state = after result (mark_of self.now number m) } }
         ensures same { AreOfOneMachine self.now.start machine.new.state }
     {
         if number > 0 {
@@ -212,7 +211,7 @@ impl<L: Exceptions, U: SysTickState> Past<L, U> {
         machine: &Machine<D, C, L, U>,
     )
         requires slot { slot < max_checkpoints }
-        requires state { (m : State) → machine.now.state ≡ after steps (slice_index_or self.old.marks 0 m) }
+        requires state { (m : State) → machine.now.state ≡ after steps (mark_of self.old 0 m) }
         ensures { self.new ≡ self.old }
     {
         self.checkpoints.save_to(slot, steps, machine);
@@ -228,11 +227,11 @@ impl<L: Exceptions, U: SysTickState> Past<L, U> {
         machine: &mut Machine<D, C, L, U>,
     ) -> u64
         requires slot { slot < max_checkpoints }
-        requires state { (m : State) → machine.old.state ≡ after from (slice_index_or self.old.marks 0 m) }
+        requires state { (m : State) → machine.old.state ≡ after from (mark_of self.old 0 m) }
         ensures past { self.new ≡ self.old }
         ensures few { (n : ℕ) → from ≤ n → to ≤ n → result ≤ n }
         ensures state { (m : State) → machine.new
-            ≡ record machine.old { state = after result (slice_index_or self.old.marks 0 m) } }
+            ≡ record machine.old { state = after result (mark_of self.old 0 m) } }
     {
         if to <= from {
             return from;
@@ -251,11 +250,11 @@ impl<L: Exceptions, U: SysTickState> Past<L, U> {
         machine: &mut Machine<D, C, L, U>,
     ) -> u64
         requires order { from ≤ to }
-        requires state { (m : State) → machine.old.state ≡ after from (slice_index_or self.old.marks 0 m) }
+        requires state { (m : State) → machine.old.state ≡ after from (mark_of self.old 0 m) }
         ensures past { self.new ≡ self.old }
         ensures few { result ≤ to }
         ensures state { (m : State) → machine.new
-            ≡ record machine.old { state = after result (slice_index_or self.old.marks 0 m) } }
+            ≡ record machine.old { state = after result (mark_of self.old 0 m) } }
     {
         let spacing = (to - from) / 12;
         let mut at = from;
@@ -276,10 +275,10 @@ impl<L: Exceptions, U: SysTickState> Past<L, U> {
         machine: &mut Machine<D, C, L, U>,
     )
         requires order { from ≤ to }
-        requires state { (m : State) → machine.old.state ≡ after from (slice_index_or self.old.marks 0 m) }
+        requires state { (m : State) → machine.old.state ≡ after from (mark_of self.old 0 m) }
         ensures past { self.new ≡ self.old }
         ensures state { (m : State) → machine.new
-            ≡ record machine.old { state = after to (slice_index_or self.old.marks 0 m) } }
+            ≡ record machine.old { state = after to (mark_of self.old 0 m) } }
     {
         let mut at = self.spread(from, to, machine);
         let mut distance = FIRST_DISTANCE;
@@ -306,7 +305,7 @@ impl<L: Exceptions, U: SysTickState> Past<L, U> {
         ensures least { least ≤ result }
         ensures most { result ≤ most }
         ensures state { (m : State) → machine.new
-            ≡ record machine.old { state = after result (slice_index_or self.old.marks number m) } }
+            ≡ record machine.old { state = after result (mark_of self.old number m) } }
         ensures same { AreOfOneMachine self.old.start machine.new.state }
     {
         let at = self.restore_near(number, most, machine);

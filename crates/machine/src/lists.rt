@@ -1,6 +1,6 @@
 //! Accesses to the words of a list of registers: those of LDM, STM, PUSH and POP.
 
-ghost use Rattle.std.specs.Prelude.{◌≡◌, ◌+◌, ◌<◌, ◌≤◌, ◌++◌, length};
+ghost use Rattle.std.specs.Prelude.{◌≡◌, ◌+◌, ◌<◌, ◌≤◌, ◌++◌, length, IfOk, true};
 ghost use Rattle.exceptions.specs.LineBounds.{max_lines};
 ghost use Rattle.exceptions.specs.Performing.{AllPerformed, performed_by};
 ghost use Rattle.exec.specs.Listed.{requests_by, requests_for};
@@ -21,14 +21,15 @@ use regs::Regs;
 use trace::sink::Sink;
 
 /// Accesses the words of a list, one by one, for the code that runs, up to the first access that isn't done. `values`
-/// becomes what they read. It does what `perform_all` of `Core` does with their requests.
+/// becomes what they read. It does what `perform_all` of `Core` does with their requests. Returns true where one kept
+/// rule granted all of them: then they left the system registers.
 #[inline(always)]
 pub fn perform_words<D: Decider, C: KeptCode, L: Exceptions, U: SysTickState, S: Sink>(
     core: &mut Core<D, C, L, U>,
     events: &mut S,
     words: &ListedWords,
     values: &mut Values,
-) -> Result<(), Failure>
+) -> Result<bool, Failure>
     requires { length (S.emitted events.old).events + max_lines (requests_for words.now core.old.registers)
         ≤ MAX_EVENTS }
     ensures state { core.new
@@ -38,6 +39,7 @@ pub fn perform_words<D: Decider, C: KeptCode, L: Exceptions, U: SysTickState, S:
         ++ (performed_by core.old (requests_for words.now core.old.registers)).events) }
     ensures answer { AllPerformed (performed_by core.old (requests_for words.now core.old.registers)) values.new
         result }
+    ensures system { IfOk result (λ kept. kept ≡ true → core.new.bus.system ≡ core.old.bus.system) }
     ensures room { length (S.emitted events.new).events
         ≤ length (S.emitted events.old).events + max_lines (requests_for words.now core.old.registers) }
 {
@@ -61,7 +63,7 @@ fn perform_list<D: Decider, C: KeptCode, L: Exceptions, U: SysTickState, S: Sink
     kind: Kind,
     words: &ListedWords,
     values: &mut Values,
-) -> Result<(), Failure>
+) -> Result<bool, Failure>
     requires tick { tick ≡ core.old.bus.system.time.ticks }
     requires privileged { privileged ≡ is_privileged core.old.registers }
     requires room { length (S.emitted events.old).events + max_lines (requests_by kind words.now core.old.registers)
@@ -73,6 +75,7 @@ fn perform_list<D: Decider, C: KeptCode, L: Exceptions, U: SysTickState, S: Sink
         ++ (performed_by core.old (requests_by kind words.now core.old.registers)).events) }
     ensures answer { AllPerformed (performed_by core.old (requests_by kind words.now core.old.registers)) values.new
         result }
+    ensures system { IfOk result (λ kept. kept ≡ true → core.new.bus.system ≡ core.old.bus.system) }
     ensures room { length (S.emitted events.new).events
         ≤ length (S.emitted events.old).events + max_lines (requests_by kind words.now core.old.registers) }
 {
@@ -89,7 +92,7 @@ fn perform_list<D: Decider, C: KeptCode, L: Exceptions, U: SysTickState, S: Sink
         at = at.wrapping_add(4);
         number = next_listed(words.list, number + 1);
     }
-    Ok(())
+    Ok(span.is_some())
 }
 
 /// Returns the access to the word of a register, for the code that runs, whose privilege is given.

@@ -1,5 +1,5 @@
 use Rattle.std.proofs.Common.{◌≡◌, ◌==◌, ◌∙◌, ap, false, length, refl, subst, sym, true}
-use Rattle.gdb.proofs.Slicing.{none_watched}
+use Rattle.gdb.proofs.Unwatched.{none_watched}
 use Rattle.gdb_past.proofs.Following.{same_refl, same_step, same_sym, same_trans}
 use Rattle.gdb_past.proofs.Ways.{on_by, on_at}
 use Rattle.gdb_past.specs.Places.{AreOfOneMachine}

@@ -22,6 +22,7 @@ registers-init g c =
       listed = first.listed;
       span = grants_then _ _ c.kept_span-span.result _ _ (ap (λ (s : State). s.bus) c.core.view_is)
           c.kept_span-span.ensures;
+      system = λ there. refl;
     }
 
 pub access_within-requires-clause-room : goal.access_within-requires-clause-room
@@ -70,6 +71,8 @@ registers-preserved g c =
       within = next.within;
       listed = next.listed;
       span = rw c.requires.privileged (rw q at c.access_within.ensures.granted);
+      system = λ there. c.access_within.ensures.system there
+          ∙ c.registers.invariant.system (c.access_within.ensures.kept there);
     }
 
 pub returns-in-Err-clause-state : goal.returns-in-Err-clause-state

@@ -1,4 +1,4 @@
-use Rattle.std.proofs.Common.{◌≡◌, ◌+◌, ◌-◌, ◌<◌, ◌≤◌, [], length, true, IfSome}
+use Rattle.std.proofs.Common.{◌≡◌, ◌+◌, ◌-◌, ◌<◌, ◌≤◌, [], length, true, is_some, IfSome}
 use Rattle.access.specs.KeptAccesses.{GrantsNow}
 use Rattle.exceptions.proofs.Performing.{added_to}
 use Rattle.exceptions.specs.LineBounds.{max_lines}
@@ -9,8 +9,8 @@ use Rattle.reference.specs.LoadStoreMultiple.{registers_of, word_requests}
 use Rattle.reference.specs.State.{with_bus}
 use Rattle.machine.proofs.lists.perform_list.Given as goal
 
--- the bus alone has changed, the lines and values so far come before those of the registers from the number on, and the
--- rule of the span grants accesses now
+-- the bus alone has changed, the lines and values so far come before those of the registers from the number on, the
+-- rule of the span grants accesses now, and by it alone the system hasn't changed
 abbrev pub invariant-registers : goal.invariant-registers
 invariant-registers g l = record {
   state : l.core ≡ with_bus l.fn.core l.core.bus;
@@ -30,6 +30,7 @@ invariant-registers g l = record {
   within : l.number ≤ 16;
   listed : l.number < 16 → is_bit l.words.list l.number ≡ true;
   span : IfSome l.span (λ kept. GrantsNow l.core.bus kept l.kind l.privileged);
+  system : is_some l.span ≡ true → l.core.bus.system ≡ l.fn.core.bus.system;
 }
 
 abbrev pub decreases-registers : goal.decreases-registers

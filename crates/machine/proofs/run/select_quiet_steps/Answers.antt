@@ -1,4 +1,4 @@
-use Rattle.std.proofs.Common.{◌≡◌, sym, refl, ◌∙◌, false}
+use Rattle.std.proofs.Common.{◌≡◌, sym, refl, false}
 use Rattle.std.proofs.KnownBytes.{Appends-nil}
 use Rattle.machine.proofs.ManySteps.{texts_by_kinds}
 use Rattle.machine.proofs.Running.{none_made}
