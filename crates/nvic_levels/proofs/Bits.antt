@@ -1,5 +1,5 @@
 -- One bit of a set is changed.
-use Rattle.std.specs.Prelude.{ℕ, ◌+◌, ◌*◌, ◌/◌, ◌%◌, ◌^◌, ◌<◌, ◌≡◌, ◌≢◌, Bool, true, ◌&&◌, ◌==◌, if◌then◌else◌, bit_or}
+use Rattle.std.specs.Prelude.{ℕ, ◌+◌, ◌*◌, ◌/◌, ◌%◌, ◌^◌, ◌<◌, ◌≡◌, ◌≢◌, Bool, true, ◌&&◌, ◌==◌, if◌then◌else◌}
 use Rattle.std.specs.Prelude.{bit_and, List, [], length, slice_index, slice_index_or, slice_set}
 use Rattle.std.specs.Int.{bit_not, trailing_zeros}
 use Rattle.std.proofs.Math.Nat.{zero-div}

@@ -1,3 +1,4 @@
+pub mod Active
 pub mod Alike
 pub mod Bits
 pub mod First

@@ -1,14 +1,14 @@
 //! The exceptions as sets of bits, one for each priority byte.
 
-ghost use Rattle.std.specs.Prelude.{◌≡◌, ◌&&◌, ◌==◌, ◌<◌, false, not, slice_index, slice_set};
+ghost use Rattle.std.specs.Prelude.{◌≡◌, ◌&&◌, ◌==◌, ◌<◌, ◌+◌, ◌*◌, false, not, slice_index, slice_set};
 ghost use Rattle.nvic_levels.specs.Sets as sets;
 ghost use Rattle.platform.specs.declared.exception.TheConstants.{NMI, HARD_FAULT};
 ghost use Rattle.platform.specs.Priorities as spec;
-ghost use Rattle.platform.specs.Priorities.{is_in_words, is_fixed, is_in, is_ready};
+ghost use Rattle.platform.specs.Priorities.{is_in_words, is_fixed, is_in, is_ready, highest_active};
 
 use crate::sets::{Set, Sets, all_empty, empty, first_of, has, has_other, put, put_at};
 use nvic::{Exceptions, Settings, implemented_bits, is_always_enabled};
-use platform::exception::{EXCEPTIONS, HARD_FAULT, Masks, NMI};
+use platform::exception::{EXCEPTIONS, HARD_FAULT, Masks, NMI, Priority};
 use std::marker::Model;
 
 /// The exceptions as sets of bits. A contract sees them as the reference's `Nvic`.
@@ -115,6 +115,26 @@ impl BitLevels {
             None => None,
         }
     }
+
+    /// Returns the highest group priority of the active exceptions up to the last one of a word, from that
+    /// of those before the word.
+    fn raised_in_word(&self, before: Priority, word: u16) -> Priority
+        requires small { word < 8 }
+        requires found { before ≡ highest_active self.now (word * 32) }
+        ensures { result ≡ highest_active self.now ((word + 1) * 32) }
+    {
+        let mut least = before;
+        #[tactic(auto, unfolding(platform::specs::Priorities::highest_active))]
+        'each: for number in word * 32..(word + 1) * 32 {
+            if self.is_active(number) {
+                let priority = self.group_priority(number);
+                if priority.is_below(least) {
+                    least = priority;
+                }
+            }
+        }
+        least
+    }
 }
 
 /// Returns whether an exception is in the set of its priority byte where it's pending: it's
@@ -213,6 +233,17 @@ impl Exceptions for BitLevels {
         } else {
             self.best_levelled()
         }
+    }
+
+    fn active_priority(&self) -> Priority {
+        let mut least = Priority::LOWEST;
+        #[tactic(auto, using(crate::proofs::Active::empty_word, crate::proofs::Active::no_word))]
+        'words: for word in 0..8u16 {
+            if self.active[word as usize] != 0 {
+                least = self.raised_in_word(least, word);
+            }
+        }
+        least
     }
 
     fn copied(&self) -> Self {
