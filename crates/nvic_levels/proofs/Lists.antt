@@ -7,7 +7,7 @@ use Rattle.std.proofs.lemmas.List.FromFn.{length-map-range_with_len, get_or-map-
 use Rattle.platform.specs.declared.exception.TheConstants.{EXCEPTIONS}
 use Rattle.platform.specs.Priorities.{is_in}
 use Rattle.nvic_levels.specs.Sets.{flags}
-use Rattle.nvic.proofs.Boards.{kept_again, same_each}
+use Rattle.nvic.proofs.Boards.{same_each}
 
 flags_length : (f : ℕ → Bool) → length (flags f) ≡ EXCEPTIONS
 unfolding flags
@@ -66,4 +66,4 @@ put_back (b ∷ s) zero = refl
 put_back (b ∷ s) (suc x) = ap (λ t. b ∷ t) (put_back s x)
 
 -- the lemmas of an exception that is taken out, moved and put back
-pub ruleset move_lemmas = (put_back, now_out, kept_again)
+pub ruleset move_lemmas = (put_back, now_out)

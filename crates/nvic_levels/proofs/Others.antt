@@ -14,12 +14,12 @@ unfolding some_below
 some_same f g zero h = refl
 some_same f g (suc k) h = rw (some_same f g k (λ y b. h y (omega (arith, b))), h k (omega arith)) refl
 
-none_some : (f : ℕ → Bool) (k : ℕ) → ((y : ℕ) → y < k → f y ≡ false) → some_below f k ≡ false
+pub none_some : (f : ℕ → Bool) (k : ℕ) → ((y : ℕ) → y < k → f y ≡ false) → some_below f k ≡ false
 unfolding some_below
 none_some f zero h = refl
 none_some f (suc k) h = rw (none_some f k (λ y b. h y (omega (arith, b))), h k (omega arith)) refl
 
-one_some : (f : ℕ → Bool) (k x : ℕ) → x < k → f x ≡ true → some_below f k ≡ true
+pub one_some : (f : ℕ → Bool) (k x : ℕ) → x < k → f x ≡ true → some_below f k ≡ true
 unfolding some_below
 one_some f zero x h e = absurd (omega (arith, h))
 one_some f (suc k) x h e = lead (λ below. one_some f k x below e) (cases_lt x k)

@@ -5,8 +5,7 @@ use Rattle.nvic.specs.declared.settings.Settings.{Settings}
 use Rattle.nvic.specs.Settings.{settings_of}
 use Rattle.nvic_levels.proofs.KeptLevels.{view_of}
 use Rattle.nvic_levels.proofs.Lists.{flags_none}
-use Rattle.nvic_levels.proofs.Spaced.{bytes_none}
-use Rattle.nvic_levels.specs.Sets.{flags, level, is_waiting, HaveImplementedBits, IsKept}
+use Rattle.nvic_levels.specs.Sets.{flags, level, is_waiting, IsKept}
 use Rattle.platform.specs.declared.exception.TheConstants.{EXCEPTIONS, MAX_INTERRUPTS}
 use Rattle.platform.specs.Priorities.{is_in_words, reset_nvic}
 
@@ -33,16 +32,14 @@ set_none set none = flags_none (is_in_words set) (λ x h. none x)
 -- the invariant of `BitLevels`
 pub reset_kept : (levels : List (List ℕ)) (held enabled : List ℕ) (settings : Settings) (interrupts bits : ℕ)
     → ((p : ℕ) → HasNone (level levels p)) → HasNone held → settings ≡ settings_of (reset_nvic interrupts bits)
-    → (settings.group < 8) × (settings.interrupts ≤ MAX_INTERRUPTS)
-    × IsKept levels held enabled settings.priorities × HaveImplementedBits settings.priority_bits settings.priorities
+    → (settings.group < 8) × (settings.interrupts ≤ MAX_INTERRUPTS) × IsKept levels held enabled settings.priorities
 reset_kept levels held enabled settings interrupts bits none out e =
     let P : Settings → Type 0 = λ s. (s.group < 8) × (s.interrupts ≤ MAX_INTERRUPTS)
-    × IsKept levels held enabled s.priorities × HaveImplementedBits s.priority_bits s.priorities in
+    × IsKept levels held enabled s.priorities in
     subst P (sym e) (
       lit< tt,
       min-le_right interrupts MAX_INTERRUPTS,
       kept_none levels held enabled (replicate EXCEPTIONS 0) none out,
-      bytes_none bits,
     )
 
 -- what a contract sees

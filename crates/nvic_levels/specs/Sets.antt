@@ -3,7 +3,7 @@ use Rattle.std.specs.Prelude.{◌≡◌, ℕ, ◌<◌, Bool, true, false, not, �
 use Rattle.std.specs.Prelude.{slice_index_or, Option, Some, None}
 use Rattle.std.specs.List.{range_with_len}
 use Rattle.platform.specs.declared.exception.TheConstants.{EXCEPTIONS}
-use Rattle.platform.specs.Priorities.{is_always_enabled, is_in_words, is_fixed, implemented_bits}
+use Rattle.platform.specs.Priorities.{is_always_enabled, is_in_words, is_fixed, some_below}
 
 -- the exceptions that pass a test, as a set of the reference: a place for each number
 unfoldable pub flags : (ℕ → Bool) → List Bool
@@ -41,12 +41,7 @@ abbrev pub IsFirstLevelled : List (List ℕ) → Option ℕ → Type 0
 IsFirstLevelled levels (Some x) = (p : ℕ) × AreEmpty levels p × IsFirstOf (level levels p) (Some x)
 IsFirstLevelled levels None = (p : ℕ) (y : ℕ) → y < EXCEPTIONS → is_in_words (level levels p) y ≡ false
 
--- each priority byte has only bits that the board keeps
-abbrev pub HaveImplementedBits : ℕ → List ℕ → Type 0
-HaveImplementedBits bits priorities = (x : ℕ) → implemented_bits bits (slice_index priorities x)
-    ≡ slice_index priorities x
-
--- an exception is only in the set of a byte that has only bits that the board keeps
-abbrev pub AreSpaced : ℕ → List (List ℕ) → Type 0
-AreSpaced bits levels = (p : ℕ) (y : ℕ) → y < EXCEPTIONS → is_in_words (level levels p) y ≡ true
-    → implemented_bits bits p ≡ p
+-- for each priority byte, `filled` says whether its level has an exception
+abbrev pub IsSummaryOf : List (List ℕ) → List ℕ → Type 0
+IsSummaryOf levels filled = (p : ℕ) → p < EXCEPTIONS
+    → is_in_words filled p ≡ some_below (is_in_words (level levels p)) EXCEPTIONS

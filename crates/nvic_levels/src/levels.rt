@@ -6,7 +6,8 @@ ghost use Rattle.platform.specs.declared.exception.TheConstants.{NMI, HARD_FAULT
 ghost use Rattle.platform.specs.Priorities as spec;
 ghost use Rattle.platform.specs.Priorities.{is_in_words, is_fixed, is_in, is_ready, highest_active};
 
-use crate::sets::{Set, Sets, all_empty, empty, first_of, has, has_other, put, put_at};
+use crate::level_sets::LevelSets;
+use crate::sets::{Set, empty, has, has_other, put};
 use nvic::{Exceptions, Settings, implemented_bits, is_always_enabled};
 use platform::exception::{EXCEPTIONS, HARD_FAULT, Masks, NMI, Priority};
 use std::marker::Model;
@@ -16,7 +17,7 @@ use std::marker::Model;
 pub struct BitLevels {
     /// For each priority byte, the exceptions that are pending and enabled and have it, NMI and
     /// HardFault excepted.
-    levels: Sets,
+    levels: LevelSets,
     /// What else is pending.
     held: Set,
     enabled: Set,
@@ -26,7 +27,7 @@ pub struct BitLevels {
 
 impl Model for BitLevels {
     ghost use Rattle.std.specs.Prelude.{◌<◌, ◌≤◌};
-    ghost use Rattle.nvic_levels.specs.Sets.{flags, is_waiting, HaveImplementedBits, IsKept};
+    ghost use Rattle.nvic_levels.specs.Sets.{flags, is_waiting, IsKept};
     ghost use Rattle.platform.specs.Priorities.{Nvic, is_in_words};
     ghost use Rattle.platform.specs.declared.exception.TheConstants.{MAX_INTERRUPTS};
 
@@ -44,8 +45,7 @@ impl Model for BitLevels {
     } };
 
     ghost invariant = { λ l. (l.settings.group < 8) × (l.settings.interrupts ≤ MAX_INTERRUPTS)
-        × IsKept l.levels l.held l.enabled l.settings.priorities
-        × HaveImplementedBits l.settings.priority_bits l.settings.priorities };
+        × IsKept l.levels l.held l.enabled l.settings.priorities };
 }
 
 impl BitLevels {
@@ -55,7 +55,7 @@ impl BitLevels {
         ensures { (x : _) → x < 256 → is_in_words result.now x
             ≡ (is_ready self.now x && not (is_fixed x) && (slice_index self.now.priorities x == priority)) }
     {
-        &self.levels[priority as usize]
+        self.levels.of(priority)
     }
 
     /// Makes an exception pending, or not pending any more, in the set where it belongs.
@@ -64,12 +64,8 @@ impl BitLevels {
         ensures { self.new ≡ record self.old { pending = slice_set self.old.pending number on } }
     {
         if is_levelled(&self.enabled, number) {
-            put_at(
-                &mut self.levels,
-                self.settings.priorities[number as usize],
-                number,
-                on,
-            );
+            self.levels
+                .put_at(self.settings.priorities[number as usize], number, on);
         } else {
             put(&mut self.held, number, on);
         }
@@ -86,8 +82,7 @@ impl BitLevels {
 
     /// Changes the priority byte of an exception that isn't pending.
     fn move_idle(&mut self, number: u8, byte: u8)
-        requires idle { is_in self.old.pending number ≡ false }
-        requires kept { spec.implemented_bits self.old.priority_bits byte ≡ byte }
+        requires { is_in self.old.pending number ≡ false }
         ensures { self.new ≡ record self.old { priorities = slice_set self.old.priorities number byte } }
     {
         self.settings.priorities[number as usize] = byte;
@@ -110,7 +105,7 @@ impl BitLevels {
         requires hard_fault { is_in self.now.pending HARD_FAULT ≡ false }
         ensures { result ≡ spec.best self.now }
     {
-        match first_of(&self.levels, self.settings.priority_bits) {
+        match self.levels.first() {
             Some(number) => Some(u16::from(number)),
             None => None,
         }
@@ -150,7 +145,7 @@ impl Exceptions for BitLevels {
     ghost content = { λ l. l };
 
     fn fresh(interrupts: u8, priority_bits: u8) -> Self {
-        let levels = all_empty();
+        let levels = LevelSets::empty();
         let held = empty();
         let enabled = empty();
         let active = empty();
@@ -198,7 +193,7 @@ impl Exceptions for BitLevels {
         number < EXCEPTIONS
             && (has(&self.held, number as u8)
                 || has(
-                    &self.levels[self.settings.priorities[number as usize] as usize],
+                    self.levels.of(self.settings.priorities[number as usize]),
                     number as u8,
                 ))
     }
@@ -255,7 +250,7 @@ impl Exceptions for BitLevels {
             settings,
         } = self;
         BitLevels {
-            levels: *levels,
+            levels: levels.copied(),
             held: *held,
             enabled: *enabled,
             active: *active,

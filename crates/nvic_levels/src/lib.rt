@@ -3,6 +3,7 @@
 #![tactic(auto)]
 
 mod kept_priorities;
+mod level_sets;
 mod levels;
 mod sets;
 

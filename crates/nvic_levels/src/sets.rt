@@ -1,23 +1,17 @@
 //! Sets of exceptions as bits.
 
-ghost use Rattle.std.specs.Prelude.{◌≡◌, ◌==◌, ◌&&◌, ◌<◌, ◌≤◌, ◌*◌, ◌/◌, ◌^◌, ℕ, not, false, if◌then◌else◌};
-ghost use Rattle.nvic_levels.specs.Sets.{AreSpaced, IsFirstLevelled, IsFirstOf, level};
+ghost use Rattle.std.specs.Prelude.{◌≡◌, ◌==◌, ◌&&◌, ◌<◌, ℕ, not, false, if◌then◌else◌};
+ghost use Rattle.nvic_levels.specs.Sets.{IsFirstOf};
 ghost use Rattle.platform.specs.declared.exception.TheConstants.{EXCEPTIONS};
 ghost use Rattle.platform.specs.Priorities.{is_in_words, some_below};
 
 use nvic::is_empty;
 use platform::exception::EXCEPTIONS;
 
-/// The number of bits of a priority byte.
-const BYTE_BITS: u8 = 8;
-
 /// A set of exceptions: bit n mod 32 of word n / 32 says whether exception n is in it.
 pub type Set = [u32; 8];
 
-/// A set for each priority byte.
-pub type Sets = [Set; EXCEPTIONS as usize];
-
-/// Returns whether a set has an exception.
+/// Returns whether an exception is in a set.
 #[inline]
 pub fn has(set: &Set, number: u8) -> bool
     ensures { result ≡ is_in_words set.now number }
@@ -39,18 +33,7 @@ pub fn put(set: &mut Set, number: u8, on: bool)
     }
 }
 
-/// Puts an exception into the set of a priority byte, or takes it out.
-#[tactic(auto, using(crate::proofs::Bits::put_level))]
-pub fn put_at(sets: &mut Sets, priority: u8, number: u8, on: bool)
-    ensures { (p : ℕ) (y : ℕ) → y < 256 → is_in_words (level sets.new p) y
-        ≡ (if (p == priority) && (y == number) then on else is_in_words (level sets.old p) y) }
-{
-    let mut set = sets[priority as usize];
-    put(&mut set, number, on);
-    sets[priority as usize] = set;
-}
-
-/// Returns the first exception of a set. Most sets are empty.
+/// Returns the first exception of a set.
 #[inline]
 pub fn first(set: &Set) -> Option<u8>
     ensures { IsFirstOf set.now result }
@@ -76,6 +59,13 @@ fn first_by_word(set: &Set) -> Option<u8>
     None
 }
 
+/// Returns whether a set has an exception.
+pub fn has_some(set: &Set) -> bool
+    ensures { result ≡ some_below (is_in_words set.now) EXCEPTIONS }
+{
+    first(set).is_some()
+}
+
 /// Returns whether a set has another exception than this one.
 pub fn has_other(set: &Set, number: u16) -> bool
     ensures { result ≡ some_below (λ y. not (y == number) && is_in_words set.now y) EXCEPTIONS }
@@ -96,44 +86,10 @@ fn without(set: &Set, number: u16) -> Set
     others
 }
 
-/// Returns the first exception of the first set that isn't empty, on a board that keeps that many of
-/// the top bits of a priority byte.
-pub fn first_of(sets: &Sets, bits: u8) -> Option<u8>
-    requires { AreSpaced bits sets.now }
-    ensures { IsFirstLevelled sets.now result }
-{
-    let dropped = BYTE_BITS.saturating_sub(bits);
-    'each: for place in 0..EXCEPTIONS >> dropped {
-        if let Some(number) = first(&sets[byte_at(place, dropped)]) {
-            return Some(number);
-        }
-    }
-    None
-}
-
-/// Returns the priority byte of an index: the index with `dropped` zeros below it.
-#[tactic(auto, using(crate::proofs::Spaced::in_range))]
-fn byte_at(place: u16, dropped: u8) -> usize
-    requires few { dropped ≤ 8 }
-    requires within { place < 256 / 2 ^ dropped }
-    ensures value { result ≡ place * 2 ^ dropped }
-    ensures small { result < 256 }
-{
-    usize::from(place) << dropped
-}
-
 /// Returns an empty set.
 #[tactic(auto, using(crate::proofs::Bits::none_due))]
 pub fn empty() -> Set
     ensures { (x : ℕ) → is_in_words result x ≡ false }
 {
     [0; 8]
-}
-
-/// Returns an empty set for each priority byte.
-pub fn all_empty() -> Sets
-    ensures { (p : ℕ) (x : ℕ) → is_in_words (level result p) x ≡ false }
-{
-    let set = empty();
-    [set; EXCEPTIONS as usize]
 }

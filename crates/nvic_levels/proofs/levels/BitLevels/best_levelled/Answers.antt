@@ -1,5 +1,4 @@
 use Rattle.nvic_levels.proofs.First.{best_found, best_absent, of_view}
-use Rattle.nvic_levels.proofs.Spaced.{spaced}
 use Rattle.nvic_levels.proofs.levels.BitLevels.best_levelled.Goals as goal
 
 pub returns-in-Some : goal.returns-in-Some
@@ -21,6 +20,3 @@ returns-in-None c =
     let view = of_view s.levels s.held s.enabled s.active s.settings.priorities s.settings.group s.settings.masks
     s.settings.interrupts s.settings.priority_bits c.self.invariant.2 in
     rw (← c.self.view_is) (best_absent _ s.levels s.held s.enabled view nmi fault c.in-None.ensures)
-
-pub first_of-requires : goal.first_of-requires
-first_of-requires c = spaced _ _ _ _ _ c.self.invariant.2 c.self.invariant.3

@@ -7,5 +7,4 @@ invariant_of-self c = (
   c.self.invariant.0,
   c.self.invariant.1,
   kept_levelled _ _ _ _ _ _ _ c.self.invariant.2 (sym c.is_levelled.ensures ∙ c.if-is_levelled.true) c.put_at.ensures,
-  c.self.invariant.3,
 )

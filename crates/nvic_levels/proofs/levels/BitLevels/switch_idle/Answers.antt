@@ -10,5 +10,4 @@ invariant_of-self c =
       c.self.invariant.0,
       c.self.invariant.1,
       kept_switched _ _ _ _ _ _ _ small c.self.invariant.2 (sym (flag _ c.args.number small) ∙ out) c.put.ensures,
-      c.self.invariant.3,
     )
