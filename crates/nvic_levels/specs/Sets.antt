@@ -1,9 +1,10 @@
 -- Sets of exceptions as bits.
-use Rattle.std.specs.Prelude.{◌≡◌, ℕ, ◌<◌, Bool, true, false, not, ◌&&◌, ◌||◌, List, [], map, slice_index}
+use Rattle.std.specs.Prelude.{◌≡◌, ℕ, ◌+◌, ◌*◌, ◌<◌, Bool, true, false, not, ◌&&◌, ◌||◌, List, [], map, slice_index}
 use Rattle.std.specs.Prelude.{slice_index_or, Option, Some, None}
 use Rattle.std.specs.List.{range_with_len}
+use Rattle.instruction_set.specs.Words.{is_bit}
 use Rattle.platform.specs.declared.exception.TheConstants.{EXCEPTIONS}
-use Rattle.platform.specs.Priorities.{is_always_enabled, is_in_words, is_fixed, some_below}
+use Rattle.platform.specs.Priorities.{is_always_enabled, is_in, is_in_words, is_fixed, some_below}
 
 -- the exceptions that pass a test, as a set of the reference: a place for each number
 unfoldable pub flags : (ℕ → Bool) → List Bool
@@ -45,3 +46,7 @@ IsFirstLevelled levels None = (p : ℕ) (y : ℕ) → y < EXCEPTIONS → is_in_w
 abbrev pub IsSummaryOf : List (List ℕ) → List ℕ → Type 0
 IsSummaryOf levels filled = (p : ℕ) → p < EXCEPTIONS
     → is_in_words filled p ≡ some_below (is_in_words (level levels p)) EXCEPTIONS
+
+-- bit k of a word says whether its k-th number is in a set
+abbrev pub IsWordOf : List Bool → ℕ → ℕ → Type 0
+IsWordOf set word bits = (k : ℕ) → k < 32 → is_in set (word * 32 + k) ≡ is_bit bits k

@@ -1,7 +1,8 @@
 //! The exceptions as sets of bits, one for each priority byte.
 
-ghost use Rattle.std.specs.Prelude.{◌≡◌, ◌&&◌, ◌==◌, ◌<◌, ◌+◌, ◌*◌, false, not, slice_index, slice_set};
+ghost use Rattle.std.specs.Prelude.{◌≡◌, ◌&&◌, ◌==◌, ◌<◌, ◌+◌, ◌*◌, min, false, not, slice_index, slice_set};
 ghost use Rattle.nvic_levels.specs.Sets as sets;
+ghost use Rattle.nvic_levels.specs.Sets.{IsWordOf};
 ghost use Rattle.platform.specs.declared.exception.TheConstants.{NMI, HARD_FAULT};
 ghost use Rattle.platform.specs.Priorities as spec;
 ghost use Rattle.platform.specs.Priorities.{is_in_words, is_fixed, is_in, is_ready, highest_active};
@@ -113,22 +114,36 @@ impl BitLevels {
 
     /// Returns the highest group priority of the active exceptions up to the last one of a word, from that
     /// of those before the word.
-    fn raised_in_word(&self, before: Priority, word: u16) -> Priority
+    fn raised_in_word(&self, before: Priority, word: u16, bits: u32) -> Priority
         requires small { word < 8 }
+        requires active { IsWordOf self.now.active word bits }
         requires found { before ≡ highest_active self.now (word * 32) }
         ensures { result ≡ highest_active self.now ((word + 1) * 32) }
     {
         let mut least = before;
-        #[tactic(auto, unfolding(platform::specs::Priorities::highest_active))]
-        'each: for number in word * 32..(word + 1) * 32 {
-            if self.is_active(number) {
-                let priority = self.group_priority(number);
-                if priority.is_below(least) {
-                    least = priority;
-                }
-            }
+        let mut number = word * 32;
+        let mut rest = bits;
+        'bits: while rest != 0 {
+            let gap = rest.trailing_zeros();
+            number += gap as u16;
+            least = self.raised_by(least, number);
+            number += 1;
+            rest = rest >> gap >> 1;
         }
         least
+    }
+
+    /// Returns the higher one of a priority and the group priority of an exception.
+    #[inline]
+    fn raised_by(&self, before: Priority, number: u16) -> Priority
+        ensures { result ≡ min (spec.group_priority self.now number) before }
+    {
+        let priority = self.group_priority(number);
+        if priority.is_below(before) {
+            priority
+        } else {
+            before
+        }
     }
 }
 
@@ -232,10 +247,11 @@ impl Exceptions for BitLevels {
 
     fn active_priority(&self) -> Priority {
         let mut least = Priority::LOWEST;
-        #[tactic(auto, using(crate::proofs::Active::empty_word, crate::proofs::Active::no_word))]
+        #[tactic(auto, using(crate::proofs::Active::word_lemmas))]
         'words: for word in 0..8u16 {
-            if self.active[word as usize] != 0 {
-                least = self.raised_in_word(least, word);
+            let bits = self.active[word as usize];
+            if bits != 0 {
+                least = self.raised_in_word(least, word, bits);
             }
         }
         least

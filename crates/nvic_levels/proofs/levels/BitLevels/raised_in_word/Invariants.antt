@@ -1,7 +1,9 @@
-use Rattle.std.proofs.Common.{◌≡◌}
-use Rattle.platform.specs.Priorities.{highest_active}
+use Rattle.nvic_levels.proofs.Active.{HasLooked}
 use Rattle.nvic_levels.proofs.levels.BitLevels.raised_in_word.Given as goal
 
--- what was found so far is the least of the exceptions that were looked at
-abbrev pub invariant-each : goal.invariant-each
-invariant-each l = l.least ≡ highest_active l.fn.self l.number
+-- the exceptions of the word before `number` have been looked at
+abbrev pub invariant-bits : goal.invariant-bits
+invariant-bits l = HasLooked l.fn.self l.fn.bits l.word l.number l.rest l.least
+
+abbrev pub decreases-bits : goal.decreases-bits
+decreases-bits l = l.rest
