@@ -100,7 +100,8 @@ impl<D: Decider, C: KeptCode, L: Exceptions, U: SysTickState> Core<D, C, L, U> {
     {
         let request = self.vector_read(exception);
         let tick = self.ticks();
-        match self.access(tick, events, &request) {
+        let mut kept = true;
+        match self.access(tick, events, &mut kept, &request) {
             Ok(vector) => self.enter_handler(events, exc_return, exception, vector),
             Err(Failure::Refused(_, _)) => self.refuse_vector(events, exception),
             Err(failure) => self.fail(events, failure),

@@ -164,7 +164,7 @@ impl<D: Decider, C: KeptCode, L: Exceptions, U: SysTickState> Core<D, C, L, U> {
         let mut values = Values::new();
         let served = self.perform_all(events, requests.as_slice(), &mut values);
         match served {
-            Ok(()) => self.unstack(events, exc_return, values.as_slice()),
+            Ok(_) => self.unstack(events, exc_return, values.as_slice()),
             Err(failure) => {
                 self.entry = Some(exc_return);
                 self.fail(events, failure);

@@ -1,25 +1,21 @@
 -- The pieces of the steps of a run, one after another.
-use Rattle.std.proofs.Common.{◌≡◌, ◌==◌, ℕ, zero, suc, ◌+◌, ◌-◌, ◌<◌, ◌≤◌, List, [], ◌∷◌, ◌++◌, length}
+use Rattle.std.proofs.Common.{◌≡◌, ℕ, zero, suc, ◌+◌, ◌-◌, ◌<◌, ◌≤◌, List, [], ◌∷◌, ◌++◌}
 use Rattle.std.proofs.Common.{Option, Some, None}
-use Rattle.std.proofs.Common.{refl, sym, ◌∙◌, ap, subst, arith, append_assoc, is_some, Bool, true, false}
-use Rattle.std.proofs.lemmas.Bool.Decides.{nat_tests}
+use Rattle.std.proofs.Common.{refl, sym, ◌∙◌, ap, subst, arith, append_assoc, is_some, true, false}
 use Rattle.std.proofs.lemmas.List.{append-nil}
 use Rattle.gdb.specs.declared.over.ReturnPoint.{ReturnPoint}
 use Rattle.gdb.specs.declared.slices.Plan.{Plan}
 use Rattle.gdb.specs.declared.slices.Points.{Points}
 use Rattle.gdb.specs.Consoles.{ShownInPart}
-use Rattle.gdb.specs.Reasons.{event_hit, first_hit, hit_by_access, reason_before, selection_of, watch_reason}
+use Rattle.gdb.specs.Reasons.{reason_before, selection_of}
 use Rattle.gdb.specs.Slices.{Flow, Progress, Sliced, Slices, after_pieces, after_step, at_rest, before_step, flow}
 use Rattle.gdb.specs.Slices.{going_on, hit_next, one_step, reason_then, slice, step_piece, step_text}
 use Rattle.gdb.specs.Slices.{unless_ended}
 use Rattle.gdb.specs.Watching.{state_unless}
 use Rattle.gdb_texts.specs.declared.stops.StopReason.{StopReason}
-use Rattle.gdb_texts.specs.declared.watchpoints.Watchpoint.{Watchpoint}
 use Rattle.machine.specs.MachineModel.{MachineModel}
 use Rattle.output.specs.Output.{Writing}
-use Rattle.platform.specs.declared.access.DecidedAccess.{DecidedAccess}
 use Rattle.platform.specs.declared.event.Event.{Event}
-use Rattle.platform.specs.Events.{access_of}
 use Rattle.reference.specs.State.{State}
 use Rattle.reference.specs.Step.{step}
 use Rattle.serving.proofs.Delivering.{cut_before, cut_on, last-append, one_cut, delivers_none, delivers_on}
@@ -28,15 +24,6 @@ use Rattle.trace.specs.declared.selection.TraceSelection.{TraceSelection}
 use Rattle.trace.specs.Selection.{selected_text}
 
 -- ---- the cases of a step
-
--- a watchpoint is hit
-pub step_hit : (p : Plan) (points : Points) (f : Flow) (o : Option StopReason) → o ≡ hit_next points f.state
-    → is_some o ≡ true → one_step p points f ≡ at_rest o (step f.state).events f
-step_hit p points f (Some r) is has =
-    ap (λ (o : Option StopReason). unless_ended o (step f.state).events f
-    (after_pieces (step_piece p f ∷ []) (at_rest (reason_then p f) (step f.state).events (after_step p f))))
-    (sym is)
-step_hit p points f None is has = absurd (let wrong : false ≡ true = has in cc)
 
 -- none is
 pub step_made : (p : Plan) (points : Points) (f : Flow) (o : Option StopReason) → o ≡ hit_next points f.state
@@ -47,11 +34,6 @@ step_made p points f None is has =
     ap (λ (o : Option StopReason). unless_ended o (step f.state).events f
     (after_pieces (step_piece p f ∷ []) (at_rest (reason_then p f) (step f.state).events (after_step p f))))
     (sym is)
-
--- the state that such a step leaves
-pub back_at : (o : Option StopReason) (s : State) → is_some o ≡ true → state_unless o s ≡ s
-back_at (Some r) s has = refl
-back_at None s has = absurd (let wrong : false ≡ true = has in cc)
 
 pub past_it : (o : Option StopReason) (s : State) → is_some o ≡ false → state_unless o s ≡ (step s).state
 past_it (Some r) s has = absurd (let wrong : true ≡ false = has in cc)

@@ -1,6 +1,6 @@
 -- The turns of a run: what a slice leaves, and slice after slice.
 use Rattle.std.proofs.Common.{◌≡◌, ℕ, suc, ◌+◌, Bool, true, false, List, [], ◌∷◌, ◌++◌}
-use Rattle.std.proofs.Common.{Option, Some, None, Result, Ok, Err, IfOk, refl, sym, ◌∙◌, ap, subst, append_assoc}
+use Rattle.std.proofs.Common.{Option, Some, None, Result, Ok, Err, refl, sym, ◌∙◌, ap, subst, append_assoc}
 use Rattle.std.proofs.Common.{if◌then◌else◌, unwrap_or}
 use Rattle.std.proofs.lemmas.List.{append-nil}
 use Rattle.gdb.proofs.Slicing.{flow_left, slice_leaves, stands_there}
@@ -25,7 +25,7 @@ use Rattle.output.specs.Output.{IsCutShort, Writing, WritesAll}
 use Rattle.platform.specs.declared.event.Event.{Event}
 use Rattle.reference.specs.State.{State}
 use Rattle.serving.proofs.Delivering.{cut_before, cut_on, one_cut, delivers_none, delivers_on}
-use Rattle.serving.specs.Pieces.{Piece, Delivers, DeliversAll, DeliversPart}
+use Rattle.serving.specs.Pieces.{Piece, DeliversAll, DeliversPart}
 
 -- ---- what a slice leaves
 
@@ -172,26 +172,6 @@ said_part m text a b cut failed =
     one_cut (record { state = m.state; text = text }) m m a b cut refl failed
 
 -- ---- the clauses of a turn that was taken
-
-pub takes_delivers : {E : Type 0} (t : Turned) (old new : MachineModel) (a b : Writing) (sent : List ℕ)
-    (result : Result Turn E)
-    → MakesTurn t old new a b sent result → Delivers t.pieces old new a b result
-takes_delivers t old new a b sent (Ok ends) takes = takes.delivers
-takes_delivers t old new a b sent (Err error) takes = takes
-
-pub takes_outcome : {E : Type 0} (t : Turned) (old new : MachineModel) (a b : Writing) (sent : List ℕ)
-    (result : Result Turn E)
-    → MakesTurn t old new a b sent result → IfOk result (λ ends. ends ≡ t.outcome)
-takes_outcome t old new a b sent (Ok ends) takes = takes.outcome
-takes_outcome t old new a b sent (Err error) takes = tt
-
-pub takes_sent : {E : Type 0} (t : Turned) (old new : MachineModel) (a b : Writing) (sent : List ℕ)
-    (result : Result Turn E)
-    → MakesTurn t old new a b sent result → IfOk result (λ ends. sent ≡ t.sent)
-takes_sent t old new a b sent (Ok ends) takes = takes.remembered
-takes_sent t old new a b sent (Err error) takes = tt
-
--- ---- a whole slice in which the run didn't end
 
 pub past_slice : (p : Plan) (points : Points) (features : Features) (n m rest : ℕ) (f : Flow) (all : Turned)
     (q : Progress) (o : Option StopReason) (old mid new : MachineModel) (a b c : Writing)

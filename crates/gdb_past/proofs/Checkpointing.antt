@@ -4,7 +4,7 @@ use Rattle.std.proofs.Common.{min, refl, replicate, slice_index_or, slice_set, s
 use Rattle.std.proofs.lemmas.List.{length-replicate, length-set}
 use Rattle.std.proofs.lemmas.List.Elements.{All-replicate, All-set}
 use Rattle.gdb_past.proofs.Following.{after_from, after_none, same_after, same_refl, same_sym, same_trans}
-use Rattle.gdb_past.specs.Checkpoints.{AreRight, Checkpoint, Checkpoints, IsNear, IsRight}
+use Rattle.gdb_past.specs.Checkpoints.{AreRight, Checkpoint, Checkpoints, IsRight}
 use Rattle.gdb_past.specs.Places.{AreOfOneMachine, Past, mark_of}
 use Rattle.machine.specs.MachineModel.{MachineModel}
 use Rattle.reference.specs.Run.{after}
@@ -77,26 +77,12 @@ slot_fits xs n x s there h is = subst (λ (c : Checkpoint). AreOfOneMachine c.st
 
 -- ---- used
 
-pub near_right : (start m : State) (cs : Checkpoints) (most number : ℕ) (c : Checkpoint) → AreRight start m cs
-    → IsNear cs most number
-    → (slice_index_or cs.slots number c).state ≡ after (slice_index_or cs.slots number c).steps m
-near_right start m cs most number c h near =
-    h.right number c (omega (arith, near.there, h.rooms)) (near.same c) near.used
-
 -- all checkpoints are of the machine that has this state
 pub all_fit : (start m s : State) (cs : Checkpoints) → AreRight start m cs → AreOfOneMachine start s
     → All (λ c. AreOfOneMachine c.state s) cs.slots
 all_fit start m s cs h fits =
     all_then (λ c. AreOfOneMachine start c.state) (λ c. AreOfOneMachine c.state s) cs.slots
     (λ c f. same_trans c.state start s (same_sym start c.state f) fits) h.fits
-
-pub fit_all : (start m s : State) (cs : Checkpoints) → AreRight start m cs → AreOfOneMachine start s
-    → All (λ c. AreOfOneMachine s c.state) cs.slots
-fit_all start m s cs h fits =
-    all_then (λ c. AreOfOneMachine start c.state) (λ c. AreOfOneMachine s c.state) cs.slots
-    (λ c f. same_trans s start c.state (same_sym start s fits) f) h.fits
-
--- ---- the machine on its way
 
 -- a machine is `at` steps after the last mark, and checkpoints alone were kept
 pub record IsOnItsWay (first now : Past) (old new : MachineModel) (at to : ℕ) : Type 0 where

@@ -1,6 +1,6 @@
 -- What is kept of a machine's past (profile).
 use Rattle.reference.specs.State.{State}
-use Rattle.std.specs.Prelude.{◌≡◌, ℕ, suc, nat_lt, Bool, if◌then◌else◌, List, [], ◌∷◌, length, slice_index_or, take}
+use Rattle.std.specs.Prelude.{◌≡◌, ℕ, nat_lt, Bool, if◌then◌else◌, List, [], ◌∷◌, length, slice_index_or, take}
 use Rattle.devices.specs.declared.device.Device.{Device}
 use Rattle.devices.specs.Devices.{DeviceWords}
 use Rattle.platform.specs.Memory.{Memory}
@@ -31,10 +31,6 @@ max_marks = 8
 abbrev pub below : ℕ → List State → List State
 below tick [] = []
 below tick (m ∷ marks) = if nat_lt (tick_of m) tick then m ∷ marks else below tick marks
-
--- the marks up to a tick
-abbrev pub up_to : ℕ → List State → List State
-up_to tick marks = below (suc tick) marks
 
 -- after a write, which left this state
 abbrev pub marked : Past → State → Past

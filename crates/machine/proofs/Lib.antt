@@ -2,7 +2,6 @@ pub mod AtOnce
 mod Fetched
 pub mod Fetching
 mod Foreseen
-mod Known
 mod Loading
 mod ManySteps
 mod Micros

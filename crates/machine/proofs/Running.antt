@@ -1,7 +1,7 @@
 -- Runs of the reference machine: one step more, and no more steps after a stop.
-use Rattle.std.proofs.Common.{◌≡◌, ◌⊎◌, inl, inr, ℕ, zero, suc, ◌+◌, ◌-◌, ◌<◌, ◌≤◌, List, [], ◌∷◌, ◌++◌, Option, Some}
+use Rattle.std.proofs.Common.{◌≡◌, ◌⊎◌, inl, inr, ℕ, zero, suc, ◌+◌, ◌-◌, ◌≤◌, List, [], ◌∷◌, ◌++◌, Option, Some}
 use Rattle.std.proofs.Common.{None, IsSome, refl, sym, ◌∙◌, ap, append_assoc, add-one, add-zero, arith, unwrap_or}
-use Rattle.std.proofs.Common.{is_some, false, below_more}
+use Rattle.std.proofs.Common.{is_some, false}
 use Rattle.std.proofs.lemmas.List.{append-nil}
 use Rattle.std.specs.Io.KnownBytes.{Appends}
 use Rattle.std.proofs.KnownBytes.{Appends-trans}
@@ -78,11 +78,6 @@ shown_on old mid new n s core shown before_it more same now =
 pub not_some : (o : Option Stop) → is_some o ≡ false → o ≡ None
 not_some None e = refl
 not_some (Some why) e = absurd cc
-
--- one step more was made
-pub made_on : (n : ℕ) (s core : State) → ((k : ℕ) → k < n → (after k s).stop ≡ None) → core ≡ after n s
-    → core.stop ≡ None → (k : ℕ) → k < n + 1 → (after k s).stop ≡ None
-made_on n s core made now going = below_more _ _ made (rw (← now) going)
 
 -- what went out before a text that was cut short
 pub cut_after : (old mid new : Option (List ℕ)) (before text : List ℕ) → Appends old mid before

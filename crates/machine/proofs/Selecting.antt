@@ -81,25 +81,6 @@ pub printed_on : (selection : TraceSelection) (last later : Option ℕ) (n : ℕ
 printed_on selection last later n s core more printed now =
     rw (events_more n s, ← now) (more (events_of n s) printed)
 
--- a step's text was cut short
-pub cut_in_step : (selection : TraceSelection) (old mid new : Writing) (limit n : ℕ) (s core last : State)
-    → n < limit → ((k : ℕ) → k < n + 1 → (after k s).stop ≡ None) → last ≡ after (n + 1) s
-    → Appends old.written mid.written (steps_text (selected_text selection) n s)
-    → IsCutShort mid.written new.written (selected_text selection (step core).events) → core ≡ after n s
-    → SelectedLeaves selection limit s (n + 1) old new last
-cut_in_step selection old mid new limit n s core last few made state shown cut now =
-    let back : n + 1 - 1 ≡ n = omega arith in
-    let whole :
-    IsCutAfter old.written new.written (steps_text (selected_text selection) n s)
-    (selected_text selection (step (after n s)).events) =
-    rw (← now) (cut_after old.written mid.written new.written _ _ shown cut) in
-    record {
-      few = omega arith;
-      made = made;
-      state = state;
-      cut = inl (omega arith, rw back whole);
-    }
-
 -- the text that a run ends with
 end_is : (selection : TraceSelection) (limit n : ℕ) (s core : State) (last : Option ℕ) (stop : Stop) → n ≤ limit
     → core ≡ after n s → last ≡ last_printed selection (events_of n s) → stop ≡ unwrap_or core.stop StepLimit
