@@ -88,7 +88,8 @@ ask-requires g c =
     let there : State = c.place_back.new.machine.state in
     let start : State = c.args.past.now.start in
     rw c.take.ensures
-    (same_trans there start c.args.machine.now.state (same_sym start there c.place_back.ensures.same) c.requires.ahead.fits)
+    (same_trans there start c.args.machine.now.state (same_sym start there c.place_back.ensures.same)
+    c.requires.ahead.fits)
 
 pub returns-in-None-clause-returns : goal.returns-in-None-clause-returns
 returns-in-None-clause-returns g c =

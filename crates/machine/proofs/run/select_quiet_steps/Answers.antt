@@ -16,4 +16,5 @@ returns-then-has_faulty_steps-clause-text g c =
 pub returns-else-has_faulty_steps-clause-text : goal.returns-else-has_faulty_steps-clause-text
 returns-else-has_faulty_steps-clause-text g c =
     let none : has_faulty_steps g.V.View.SELECTION ≡ false = cc in
-    rw (texts_by_kinds g.V.View.SELECTION c.make_quiet_steps.result c.args.core.now none) c.make_quiet_steps.ensures.text
+    rw (texts_by_kinds g.V.View.SELECTION c.make_quiet_steps.result c.args.core.now none)
+    c.make_quiet_steps.ensures.text

@@ -20,7 +20,8 @@ returns-clause-put g c =
     let put :
     Put (g.W.Out.writing c.args.out.now) (g.W.Out.writing c.step.new.events.out.now)
     (lines (step c.args.core.now).events) c.end.result =
-    rw (all_lines (step c.args.core.now).events) at (puts_step which.All (g.W.Out.writing c.args.out.now) (g.W.Out.writing c.step.new.events.out.now)
+    rw (all_lines (step c.args.core.now).events) at
+    (puts_step which.All (g.W.Out.writing c.args.out.now) (g.W.Out.writing c.step.new.events.out.now)
     c.new-events.result.out.ghost_name
     (emission g.W.Out.writing c.new-events.result.out.ghost_name c.new-events.result.out.now
     c.new-events.result.history.items)
