@@ -1,0 +1,2 @@
+#!/bin/bash
+for p in $(pgrep -f "rattle (build|check|must)|rattle-try|unproved.py"); do cwd=$(readlink /proc/$p/cwd 2>/dev/null); n=; case "$cwd" in /work/ls/*) n=-12;; /work/cs/*) n=-8;; /work/p2/*) n=0;; /tmp/rt-copy-*/crates/test_runs) n=-13;; /tmp/rt-copy-*/crates/test_*) n=-12;; /tmp/rt-copy-*) n=-10;; esac; [ -n "$n" ] && for t in /proc/$p/task/*; do renice -n $n -p $(basename $t) >/dev/null 2>&1; done; done
