@@ -6,7 +6,7 @@
 -- - The bits below the lowest 1 of the rest are 0, so what is between is passed over (`passed`).
 use Rattle.std.proofs.Common.{◌≡◌, ℕ, zero, suc, ◌==◌, ◌+◌, ◌-◌, ◌*◌, ◌/◌, ◌%◌, ◌^◌, ◌<◌, ◌≤◌, ◌⊎◌, inl, inr, min, true}
 use Rattle.std.proofs.Common.{false, List, slice_index, refl, sym, ◌∙◌, ap, arith, w32}
-use Rattle.std.proofs.Math.Nat.{div-div-eq-div-mul, div-le_self, div-one}
+use Rattle.std.proofs.Math.Nat.{div-div-eq-div-mul, div-le_self}
 use Rattle.std.proofs.lemmas.Bool.{cases_lt, eq-eqb}
 use Rattle.std.proofs.lemmas.Nat.{pow-add}
 use Rattle.std.proofs.lemmas.Nat.Bits.{bit_at_above, bit_at-trailing_zeros, bit_at-zero}
@@ -66,18 +66,6 @@ pub record HasLooked (n : Nvic) (word w number rest least : ℕ) : Type 0 where
   pub upto : number ≤ w * 32 + 32
   pub left : rest ≡ word / 2 ^ (number - w * 32)
   pub found : least ≡ highest_active n number
-
-pub looked_first : (n : Nvic) (word w least : ℕ) → least ≡ highest_active n (w * 32)
-    → HasLooked n word w (w * 32) word least
-looked_first n word w least found = record {
-  from = omega arith;
-  upto = omega arith;
-  left = sym (ap (λ s. word / 2 ^ s) none ∙ div-one word);
-  found = found;
-}
-  where
-    none : w * 32 - w * 32 ≡ 0
-    none = omega arith
 
 bit_left : (v s i : ℕ) → bit_at (v / 2 ^ s) i ≡ bit_at v (s + i)
 bit_left v s i = ap (λ q. q % 2) (div-div-eq-div-mul v (2 ^ s) (2 ^ i) ∙ ap (λ p. v / p) (sym (pow-add 2 s i)))
