@@ -131,7 +131,7 @@ Commands, one a line on standard input; numbers are decimal, or hexadecimal afte
                      puts a value into a core register (13 is the stack pointer in use, 14 LR, 15 PC) or a
                      special register, which is numbered as in MSR
   place word <a> <v>
-                     puts a value into a word of flash, RAM or the Private Peripheral Bus
+                     puts a value into a word of flash, RAM, the Private Peripheral Bus or a device
   signal pulse|rise|fall <k>
                      does what an event of the board's script does to interrupt k, first in the next tick
   signal nmi         makes NMI pending

@@ -21,7 +21,7 @@ state                  shows registers, the clock, fault registers, regions and 
 next                   shows the kind of the next step, or the stop line
 place reg <n> <v>      puts a value into a core register: 13 is the stack pointer in use, 14 LR, 15 PC
 place special <n> <v>  puts a value into a special register, numbered as in MSR
-place word <a> <v>     puts a value into a word of memory or a system register
+place word <a> <v>     puts a value into a word of memory, of the system registers or of a device
 signal <how> <k>       does what an event of the script does to interrupt k: pulse, rise or fall
 signal nmi             makes NMI pending
 save <k>               saves the state of the machine in slot k; `--slots` sets how many there are

@@ -5,4 +5,4 @@ mod NeededLines
 mod Turning
 mod Searching
 mod Returning
-mod Unwatched
+pub mod Unwatched

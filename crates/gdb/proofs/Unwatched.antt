@@ -26,7 +26,7 @@ none_by None = refl
 none_by (Some a) = none_of a (is_some a.refused) refl
 
 -- without watchpoints nothing is hit
-none_hit : (events : List Event) → first_hit [] events ≡ None
+pub none_hit : (events : List Event) → first_hit [] events ≡ None
 unfolding first_hit
 none_hit [] = refl
 none_hit (e ∷ es) = (let is : event_hit [] e.what ≡ None = none_by (access_of e.what) in rw is (none_hit es))

@@ -1,6 +1,5 @@
 mod Backs
 mod Cuts
-mod Hits
 mod Made
 mod OnlyReading
 mod Traces

@@ -22,7 +22,7 @@ use Rattle.gdb.specs.Slices.{reason_then, returns_then, slice, step_piece, unles
 use Rattle.gdb.specs.Turns.{Turned, asked_or, begun, ended_or, flushed, flushing, max_slice_steps}
 use Rattle.gdb.specs.Turns.{slices, turn, whys, with_pieces}
 use Rattle.gdb.specs.Whys.{has_line, line_begun, needs_line, stop_text, stop_with_line}
-use Rattle.gdb_laws.proofs.Hits.{none_hit}
+use Rattle.gdb.proofs.Unwatched.{none_hit}
 use Rattle.gdb_laws.proofs.Made.{TurnFrom, after_sliced, end_turn, on_turn}
 use Rattle.gdb_laws.specs.RunLaw.{Continues, IsTraceOf, TraceLaw, WritesTrace}
 use Rattle.gdb_texts.specs.declared.actions.Resume.TheVariants.{Continue}

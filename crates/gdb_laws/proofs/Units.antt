@@ -15,7 +15,7 @@ use Rattle.gdb.specs.Reasons.{reason_of_events, reason_or, refusal_reason, stop_
 use Rattle.gdb.specs.declared.turns.Turn.{Turn}
 use Rattle.gdb.specs.declared.turns.Turn.TheVariants.{Asks, Ends}
 use Rattle.gdb.specs.Searches.{ends_unit}
-use Rattle.gdb_laws.proofs.Hits.{none_hit}
+use Rattle.gdb.proofs.Unwatched.{none_hit}
 use Rattle.gdb.specs.Slices.{Flow, Sliced, after_pieces, at_rest, before_step, hit_next, one_step}
 use Rattle.gdb.specs.Slices.{reason_then, returns_then, slice, unless_ended}
 use Rattle.gdb.specs.Turns.{Turned, asked_or, begun, ended_or, flushed, flushing, max_slice_steps}

@@ -22,7 +22,7 @@ step into|over              sets whether steps go into handlers, or over them an
 budget <n>                  sets the most steps of a run; 0 sets no limit
 place reg <n> <v>           puts a value into a core register: 13 is the stack pointer in use, 14 LR, 15 PC
 place special <n> <v>       puts a value into a special register, numbered as in MSR
-place word <a> <v>          puts a value into a word of memory or a system register
+place word <a> <v>          puts a value into a word of memory, of the system registers or of a device
 restart                     goes back to the first state
 why                         says why the last packet was refused
 help                        shows these lines

@@ -65,7 +65,7 @@ out state                  shows registers, the clock, fault registers, regions 
 out next                   shows the kind of the next step, or the stop line
 out place reg <n> <v>      puts a value into a core register: 13 is the stack pointer in use, 14 LR, 15 PC
 out place special <n> <v>  puts a value into a special register, numbered as in MSR
-out place word <a> <v>     puts a value into a word of memory or a system register
+out place word <a> <v>     puts a value into a word of memory, of the system registers or of a device
 out signal <how> <k>       does what an event of the script does to interrupt k: pulse, rise or fall
 out signal nmi             makes NMI pending
 out save <k>               saves the state of the machine in slot k; `--slots` sets how many there are
