@@ -14,7 +14,8 @@ use Rattle.platform.specs.Map.{is_for_memory}
 pub memory_ends : (base size : ℕ) → is_for_memory base size ≡ true → base + size ≤ 0xA000_0000
 memory_ends base size fits = grind (arith, nat_tests)
 
-pub second_ends : (second : Option SecondRam) → second_base (option_map span_of second) + second_size (option_map span_of second) ≤ 0xA000_0000
+pub second_ends : (second : Option SecondRam)
+    → second_base (option_map span_of second) + second_size (option_map span_of second) ≤ 0xA000_0000
 second_ends None = lit≤ tt
 second_ends (Some second) = memory_ends second.base second.size second.is_for_memory
 

@@ -1,6 +1,8 @@
 -- Devices that were read: a device of its parts, and no device has an address past the address space.
-use Rattle.std.proofs.Common.{◌≡◌, ◌∙◌, ℕ, ◌+◌, ◌%◌, ◌^◌, ◌<◌, ◌≤◌, Bool, true, false, nat_le, nat_lt, ◌==◌, List, [], ◌∷◌}
-use Rattle.std.proofs.Common.{◌++◌, Option, Some, None, Result, Ok, Err, drop, get_or, length, length-append, ap, refl, sym}
+use Rattle.std.proofs.Common.{◌≡◌, ◌∙◌, ℕ, ◌+◌, ◌%◌, ◌^◌, ◌<◌, ◌≤◌, Bool, true, false, nat_le, nat_lt, ◌==◌, List, []}
+use Rattle.std.proofs.Common.{◌∷◌}
+use Rattle.std.proofs.Common.{◌++◌, Option, Some, None, Result, Ok, Err, drop, get_or, length, length-append, ap}
+use Rattle.std.proofs.Common.{refl, sym}
 use Rattle.std.proofs.Common.{arith}
 use Rattle.std.proofs.Math.ListN.{drop_of_length-le}
 use Rattle.std.proofs.Props.{props}
@@ -100,8 +102,8 @@ line_of_is interrupt enable small =
 -- ---- the loop over the tables
 
 -- the table at an index, and those after it
-devices_in-next : (numbers : Numbers) (before : ℕ) (found : List Device) (values : List Value) (index : ℕ) (value : Value)
-    → index < length values → value ≡ get_or values index value
+devices_in-next : (numbers : Numbers) (before : ℕ) (found : List Device) (values : List Value) (index : ℕ)
+    (value : Value) → index < length values → value ≡ get_or values index value
     → devices_in numbers before found (items_view (drop index values))
     ≡ (listed_device numbers before found (view value)
     >>= (λ device. devices_in numbers (before + device.size) (found ++ device ∷ [])

@@ -112,17 +112,19 @@ signal_is interrupts devices event (Some value) signal taken = nmi_signal_is int
 abbrev IsRead : ℕ → ScriptedEvent → Type 0
 IsRead interrupts event = (event.at ≤ last_tick) × IsOfBoard interrupts event.what
 
-event_is : (interrupts : ℕ) (devices : List Device) (fields : Members) (event : ScriptedEvent) → event_in interrupts devices fields ≡ Ok event
-    → IsRead interrupts event
+event_is : (interrupts : ℕ) (devices : List Device) (fields : Members) (event : ScriptedEvent)
+    → event_in interrupts devices fields ≡ Ok event → IsRead interrupts event
 unfolding event_in
 event_is interrupts devices fields event taken =
     let (at, at_tick) = both (where_ok is_tick (number (get_member (codes "at") fields))) _ event taken in
-    let (what, at_what) = both (signal_in interrupts devices fields (get_member (codes "nmi") fields)) _ event at_tick.1 in
+    let (what, at_what) =
+    both (signal_in interrupts devices fields (get_member (codes "nmi") fields)) _ event at_tick.1 in
     let given : ScriptedEvent = record { at = at; what = what } in
     let same : given ≡ event = cc in
     let passed : is_tick at ≡ true = in_range is_tick (number (get_member (codes "at") fields)) at at_tick.0 in
     let last : at ≤ last_tick = grind (arith, nat_tests) in
-    subst (IsRead interrupts) same (last, signal_is interrupts devices fields (get_member (codes "nmi") fields) what at_what.0)
+    subst (IsRead interrupts) same
+    (last, signal_is interrupts devices fields (get_member (codes "nmi") fields) what at_what.0)
 
 -- and it is no earlier than the tick of the one before
 pub timely_if : (late : Bool) (read event : ScriptedEvent) →
@@ -154,6 +156,7 @@ script_is interrupts devices before no_items events taken =
 script_is interrupts devices before (item value values) events taken =
     let (event, at_event) = both (timely_event interrupts devices before value) _ events taken in
     let (others, at_others) = front event (script_in interrupts devices event.at values) events at_event.1 in
-    let is : (before ≤ event.at) × IsRead interrupts event = timely_is interrupts devices before value event at_event.0 in
+    let is : (before ≤ event.at) × IsRead interrupts event =
+    timely_is interrupts devices before value event at_event.0 in
     subst (IsScriptFrom interrupts before) at_others.1
     (is.0, is.1.0, is.1.1, script_is interrupts devices event.at values others at_others.0)

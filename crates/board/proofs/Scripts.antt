@@ -27,19 +27,20 @@ after-in_front done event (Ok rest) = ap Ok (sym (append_assoc done (event ∷ [
 after-in_front done event (Err error) = refl
 
 -- the value at an index, and those after it
-script_in-next : (interrupts : ℕ) (devices : List Device) (before : ℕ) (values : List Value) (index : ℕ) (value : Value) → index < length values →
-    value ≡ get_or values index value →
-    script_in interrupts devices before (items_view (drop index values))
+script_in-next : (interrupts : ℕ) (devices : List Device) (before : ℕ) (values : List Value) (index : ℕ) (value : Value)
+    → index < length values → value ≡ get_or values index value
+    → script_in interrupts devices before (items_view (drop index values))
     ≡ (timely_event interrupts devices before (view value)
     >>= (λ event. in_front event (script_in interrupts devices event.at (items_view (drop (index + 1) values)))))
 unfolding script_in
-script_in-next interrupts devices before values index value below is = rw (items_view-drop values index value below, ← is)
+script_in-next interrupts devices before values index value below is =
+    rw (items_view-drop values index value below, ← is)
 
 -- an event that is refused
 pub refused : (interrupts : ℕ) (devices : List Device) (before : ℕ) (values : List Value) (index : ℕ) (value : Value)
     (done : List ScriptedEvent) (all : Read) (error : BoardError) →
-    index < length values → value ≡ get_or values index value → timely_event interrupts devices before (view value) ≡ Err error
-    →
+    index < length values → value ≡ get_or values index value →
+    timely_event interrupts devices before (view value) ≡ Err error →
     after done (script_in interrupts devices before (items_view (drop index values))) ≡ all → all ≡ Err error
 refused interrupts devices before values index value done all error below is outside whole =
     sym whole
@@ -52,7 +53,8 @@ refused interrupts devices before values index value done all error below is out
 -- an event that is taken
 pub taken : (interrupts : ℕ) (devices : List Device) (before : ℕ) (values : List Value) (index : ℕ) (value : Value)
     (done : List ScriptedEvent) (all : Read) (event : ScriptedEvent) →
-    index < length values → value ≡ get_or values index value → timely_event interrupts devices before (view value) ≡ Ok event →
+    index < length values → value ≡ get_or values index value →
+    timely_event interrupts devices before (view value) ≡ Ok event →
     after done (script_in interrupts devices before (items_view (drop index values))) ≡ all →
     after (done ++ event ∷ []) (script_in interrupts devices event.at (items_view (drop (index + 1) values))) ≡ all
 taken interrupts devices before values index value done all event below is inside whole =
@@ -65,9 +67,9 @@ taken interrupts devices before values index value done all event below is insid
     ∙ whole
 
 -- no value is left
-pub finished : (interrupts : ℕ) (devices : List Device) (before : ℕ) (values : List Value) (index : ℕ) (done : List ScriptedEvent) (all : Read) →
-    length values ≤ index → after done (script_in interrupts devices before (items_view (drop index values))) ≡ all → all
-    ≡ Ok done
+pub finished : (interrupts : ℕ) (devices : List Device) (before : ℕ) (values : List Value) (index : ℕ)
+    (done : List ScriptedEvent) (all : Read) → length values ≤ index →
+    after done (script_in interrupts devices before (items_view (drop index values))) ≡ all → all ≡ Ok done
 unfolding script_in
 finished interrupts devices before values index done all past whole =
     let nothing : drop index values ≡ [] = drop_of_length-le values past in

@@ -1,6 +1,7 @@
 -- The values of a document by the kinds that keys take (profile), over the `toml` crate's meaning of a document (TOML
 -- 1.1). A check is made only where those before it passed, so the first refusal is the result.
-use Rattle.std.specs.Prelude.{ℕ, suc, ℤ, pos, negsuc, Bool, true, false, ◌&&◌, ◌^◌, not, nat_lt, if◌then◌else◌, List, ◌∷◌}
+use Rattle.std.specs.Prelude.{ℕ, suc, ℤ, pos, negsuc, Bool, true, false, ◌&&◌, ◌^◌, not, nat_lt, if◌then◌else◌, List}
+use Rattle.std.specs.Prelude.{◌∷◌}
 use Rattle.std.specs.Prelude.{bytes_eq, Option, Some, None, Result, Ok, Err}
 use Rattle.std.specs.List.{list_any}
 use Rattle.toml.specs.Data.{Data, Items, no_items, item, Members, no_members, member, as_integer, as_str, as_bool}

@@ -5,7 +5,8 @@ ghost use Rattle.debugger_commands.specs.Breakpoints.{has};
 ghost use Rattle.debugger_commands.specs.Conditions.{access_hit, first_hit, has_line, hit_if, hit_of, is_printed};
 ghost use Rattle.debugger_commands.specs.Conditions.{is_plain, run_end_text};
 ghost use Rattle.debugger_commands.specs.Settings.{block_line, facts_text, number_line, ok_text, opened_settings};
-ghost use Rattle.debugger_commands.specs.Settings.{memory_lines, second_ram_line, settings_after, settings_text, with_condition};
+ghost use Rattle.debugger_commands.specs.Settings.{memory_lines, second_ram_line, settings_after, settings_text};
+ghost use Rattle.debugger_commands.specs.Settings.{with_condition};
 ghost use Rattle.debugger_commands.specs.Settings.{without_conditions};
 ghost use Rattle.platform.specs.Boards.{numbers_of};
 

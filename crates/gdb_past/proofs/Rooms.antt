@@ -4,7 +4,8 @@ use Rattle.std.proofs.Common.{drop, false, length, length-append, min, nat_lt, r
 use Rattle.std.proofs.Common.{slice_set, sym, take, true}
 use Rattle.std.proofs.lemmas.Bool.{lt-ltb}
 use Rattle.std.proofs.lemmas.Bool.Decides.{nat_tests}
-use Rattle.std.proofs.lemmas.List.{drop-take, length-drop, length-replicate, length-set, length-take, take-append-le, take_min}
+use Rattle.std.proofs.lemmas.List.{drop-take, length-drop, length-replicate, length-set, length-take, take-append-le}
+use Rattle.std.proofs.lemmas.List.{take_min}
 use Rattle.std.proofs.lemmas.List.Elements.{All-append, All-drop, All-replicate, All-set, All-take}
 use Rattle.std.proofs.Math.Seq.{drop-cons}
 use Rattle.gdb_past.proofs.Following.{same_refl, same_sym, same_trans}

@@ -1,5 +1,6 @@
 -- The machine stays after the last mark: it makes steps, and each write leaves a mark.
-use Rattle.std.proofs.Common.{◌≡◌, Bool, true, false, List, ℕ, Option, Some, None, Result, Ok, Err, OnOk, refl, subst, sym}
+use Rattle.std.proofs.Common.{◌≡◌, Bool, true, false, List, ℕ, Option, Some, None, Result, Ok, Err, OnOk, refl, subst}
+use Rattle.std.proofs.Common.{sym}
 use Rattle.std.proofs.Common.{ap, ◌∙◌}
 use Rattle.debugger_commands.specs.declared.commands.LineError.{LineError}
 use Rattle.gdb.specs.declared.returns.Return.{Return}

@@ -67,7 +67,8 @@ nothing_in : (text : List ℕ) (cut : Bool) → (length text == 0) && not cut �
 nothing_in [] true e = absurd cc
 nothing_in [] false e = refl
 nothing_in (b ∷ text) cut e =
-    let none : length (b ∷ text) ≡ 0 = eqb-true (length (b ∷ text)) 0 (and_parts (length (b ∷ text) == 0) (not cut) e).0 in
+    let none : length (b ∷ text) ≡ 0 =
+    eqb-true (length (b ∷ text)) 0 (and_parts (length (b ∷ text) == 0) (not cut) e).0 in
     absurd (omega arith)
 
 pub nothing_is_empty : (clip : Clip) → is_nothing clip ≡ true → clip ≡ empty

@@ -1,5 +1,5 @@
-//! What the page about a run is made of: numbers, words and names as text, what its tables and drawings show, and a page in
-//! memory. Nothing here knows the page's parts.
+//! What the page about a run is made of: numbers, words and names as text, what its tables and drawings show, and a
+//! page in memory. Nothing here knows the page's parts.
 #![tactic(auto)]
 
 pub mod access_table;

@@ -1,5 +1,6 @@
 -- A device and a line can be made of the parts that are read.
-use Rattle.std.proofs.Common.{◌≡◌, ℕ, ◌<◌, Bool, true, false, ◌&&◌, List, codes, Option, Some, None, Result, Ok, Err, IsOk}
+use Rattle.std.proofs.Common.{◌≡◌, ℕ, ◌<◌, Bool, true, false, ◌&&◌, List, codes, Option, Some, None, Result, Ok, Err}
+use Rattle.std.proofs.Common.{IsOk}
 use Rattle.std.proofs.Common.{refl}
 use Rattle.toml.specs.Data.{Members, get_member}
 use Rattle.devices.specs.declared.device.Device.{Device}

@@ -43,8 +43,8 @@ is_refusal lines devices before number (item value others) =
     (λ event. script_in lines devices event.at others) (λ event. is_refusal lines devices event.at (number + 1) others)
 
 -- the event at an index, and those after it
-next : (lines : ℕ) (devices : List Device) (before number : ℕ) (values : List Value) (index : ℕ) (value : Value) → index < length values
-    → value ≡ get_or values index value
+next : (lines : ℕ) (devices : List Device) (before number : ℕ) (values : List Value) (index : ℕ) (value : Value)
+    → index < length values → value ≡ get_or values index value
     → first_refused lines devices before number (items_view (drop index values))
     ≡ refused_or number (timely_event lines devices before (view value))
     (λ at. first_refused lines devices at (number + 1) (items_view (drop (index + 1) values)))
@@ -62,8 +62,8 @@ refused_by number (Ok event) later error is = cc
 refused_by number (Err other) later error is = cc
 
 -- an event that is read
-pub passed : (lines : ℕ) (devices : List Device) (before number : ℕ) (values : List Value) (index : ℕ) (value : Value) (at : ℕ)
-    (all : Option (ℕ × BoardError)) → index < length values → value ≡ get_or values index value
+pub passed : (lines : ℕ) (devices : List Device) (before number : ℕ) (values : List Value) (index : ℕ) (value : Value)
+    (at : ℕ) (all : Option (ℕ × BoardError)) → index < length values → value ≡ get_or values index value
     → tick_of (timely_event lines devices before (view value)) ≡ Ok at
     → first_refused lines devices before number (items_view (drop index values)) ≡ all
     → first_refused lines devices at (number + 1) (items_view (drop (index + 1) values)) ≡ all
@@ -72,8 +72,8 @@ passed lines devices before number values index value at all below is ticks whol
     ∙ sym (next lines devices before number values index value below is) ∙ whole
 
 -- an event that is refused
-pub found : (lines : ℕ) (devices : List Device) (before number : ℕ) (values : List Value) (index : ℕ) (value : Value) (error : BoardError)
-    (all : Option (ℕ × BoardError)) → index < length values → value ≡ get_or values index value
+pub found : (lines : ℕ) (devices : List Device) (before number : ℕ) (values : List Value) (index : ℕ) (value : Value)
+    (error : BoardError) (all : Option (ℕ × BoardError)) → index < length values → value ≡ get_or values index value
     → tick_of (timely_event lines devices before (view value)) ≡ Err error
     → first_refused lines devices before number (items_view (drop index values)) ≡ all → Some (number, error) ≡ all
 found lines devices before number values index value error all below is refuses whole =
@@ -81,8 +81,9 @@ found lines devices before number values index value error all below is refuses 
     ∙ sym (next lines devices before number values index value below is) ∙ whole
 
 -- no event is left
-pub none_found : (lines : ℕ) (devices : List Device) (before number : ℕ) (values : List Value) (index : ℕ) (all : Option (ℕ × BoardError))
-    → length values ≤ index → first_refused lines devices before number (items_view (drop index values)) ≡ all → None ≡ all
+pub none_found : (lines : ℕ) (devices : List Device) (before number : ℕ) (values : List Value) (index : ℕ)
+    (all : Option (ℕ × BoardError)) → length values ≤ index
+    → first_refused lines devices before number (items_view (drop index values)) ≡ all → None ≡ all
 unfolding first_refused
 none_found lines devices before number values index all past whole =
     let nothing : drop index values ≡ [] = drop_of_length-le values past in
@@ -90,7 +91,8 @@ none_found lines devices before number values index all past whole =
 
 -- likewise for a script from its first event on
 pub is_of_script : (lines : ℕ) (devices : List Device) (values : List Value) (found : Option (ℕ × BoardError))
-    → found ≡ first_refused lines devices 1 1 (items_view values) → IsRefusal found (script_in lines devices 1 (items_view values))
+    → found ≡ first_refused lines devices 1 1 (items_view values)
+    → IsRefusal found (script_in lines devices 1 (items_view values))
 is_of_script lines devices values found is =
     subst (λ (o : Option (ℕ × BoardError)). IsRefusal o (script_in lines devices 1 (items_view values))) (sym is)
     (is_refusal lines devices 1 1 (items_view values))

@@ -1,5 +1,6 @@
 -- A signal between two steps does what an event of the script does that is the first of the next tick.
-use Rattle.std.proofs.Common.{◌≡◌, ℕ, zero, suc, ◌+◌, ◌∷◌, ◌++◌, Bool, true, false, ◌||◌, if◌then◌else◌, List, [], nat_le}
+use Rattle.std.proofs.Common.{◌≡◌, ℕ, zero, suc, ◌+◌, ◌∷◌, ◌++◌, Bool, true, false, ◌||◌, if◌then◌else◌, List, []}
+use Rattle.std.proofs.Common.{nat_le}
 use Rattle.std.proofs.Common.{set, take, drop, Option, refl, sym, ◌∙◌, ap, arith}
 use Rattle.std.proofs.lemmas.Bool.{le-leb}
 use Rattle.std.proofs.lemmas.List.{set-set}
@@ -175,7 +176,8 @@ module _ (s : System) (what : Signal) where
   unfolding tick_pends
   passed_as n e =
       ap (λ (m : Nvic). record s { nvic = m; time = time_after_tick scripted.time }) e
-      ∙ ap (λ (t : Time). record s { nvic = with_pended (with_pended s.nvic (pends what)) (tick_pends s.time); time = t })
+      ∙ ap
+      (λ (t : Time). record s { nvic = with_pended (with_pended s.nvic (pends what)) (tick_pends s.time); time = t })
       time_alike
 
   passed_alike : time_passed scripted ≡ time_passed (on_interrupts s what)

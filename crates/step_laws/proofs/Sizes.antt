@@ -103,8 +103,8 @@ unfolding altered
 alter_board s p =
     cond_both (not (is_word_aligned p)) _ _ (KeepsBoard s) (λ e. tt)
     (λ e. cond_both (not (is_there s.bus p)) _ _ (KeepsBoard s) (λ f. tt)
-    (λ f. cond_both (is_some s.stop || (not (is_plain s.bus.memory p) && (is_some s.entry || is_handler s.registers))) _ _
-    (KeepsBoard s) (λ g. tt) (λ g. taken_board s p)))
+    (λ f. cond_both (is_some s.stop || (not (is_plain s.bus.memory p) && (is_some s.entry || is_handler s.registers))) _
+    _ (KeepsBoard s) (λ g. tt) (λ g. taken_board s p)))
 
 -- ---- signals
 

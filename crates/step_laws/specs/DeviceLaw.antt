@@ -44,8 +44,8 @@ are_reaching ds events a = list_any (λ event. is_access_with (λ d. reaches ds 
 abbrev pub are_naming : List Poke → ℕ → Bool
 are_naming ps a = list_any (λ p. are_of_word p.address a) ps
 
--- a step leaves what is stored in the word at an address, where no poke of its tick names the word, and no load or store
--- of the step that was carried out stores to it or pokes it
+-- a step leaves what is stored in the word at an address, where no poke of its tick names the word, and no load or
+-- store of the step that was carried out stores to it or pokes it
 abbrev pub WordStays : State → ℕ → Type 0
 WordStays s a =
     are_naming (pokes_of (events_at (s.bus.system.time.ticks + 1) s.bus.system.time.script)) a ≡ false →

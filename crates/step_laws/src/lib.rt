@@ -48,16 +48,16 @@ pub fn signals_are_events()
     ensures { (s : State) (what : Signal) → SignalIsEvent s what }
 {}
 
-/// The blocks of memory keep their places and sizes, and the devices stay, in a step and where a value or a signal comes
-/// from outside.
+/// The blocks of memory keep their places and sizes, and the devices stay, in a step and where a value or a signal
+/// comes from outside.
 pub fn board_stays()
     ensures step { (s : State) → AreOfOneBoard s.bus (step s).state.bus }
     ensures alter { (s : State) (p : Place) → KeepsBoard s (altered s p) }
     ensures signal { (s : State) (what : Signal) → KeepsBoard s (signalled s what) }
 {}
 
-/// A step leaves what is stored in a word of a device, where no poke of its tick names the word, and no load or store of
-/// the step that was carried out stores to the word or is in a device that pokes it.
+/// A step leaves what is stored in a word of a device, where no poke of its tick names the word, and no load or store
+/// of the step that was carried out stores to the word or is in a device that pokes it.
 pub fn words_of_devices_change_by_accesses_and_pokes()
     ensures { (s : State) (a : ℕ) → WordStays s a }
 {}

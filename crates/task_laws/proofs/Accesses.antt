@@ -33,7 +33,8 @@ use Rattle.task_laws.specs.TaskLaw.{IsOfTask, AreOfTask}
 use Rattle.task_laws.proofs.Blocks.{decided_alike, one_block}
 use Rattle.task_laws.proofs.Memories.{rest_kept}
 use Rattle.task_laws.proofs.Priorities.{Decides, device_decides, system_decides}
-use Rattle.physical_memory.proofs.Blocks.{AllIn, agree_then, both, both_by, in_memory_alike, number_alike, writable_alike}
+use Rattle.physical_memory.proofs.Blocks.{AllIn, agree_then, both, both_by, in_memory_alike, number_alike}
+use Rattle.physical_memory.proofs.Blocks.{writable_alike}
 use Rattle.physical_memory.proofs.Blocks.{written_alike}
 use Rattle.physical_memory.proofs.Bytes.{length-bytes_of}
 

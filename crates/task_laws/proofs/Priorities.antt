@@ -1,5 +1,5 @@
--- Neither a tick nor an access of unprivileged code, nor one to a device, changes what the decision depends on: they make
--- exceptions pending.
+-- Neither a tick nor an access of unprivileged code, nor one to a device, changes what the decision depends on: they
+-- make exceptions pending.
 use Rattle.std.proofs.Common.{◌≡◌, ℕ, ◌+◌, ◌*◌, ◌/◌, ◌%◌, ◌^◌, Bool, true, false, not, ◌||◌, ◌==◌, ◌∙◌, refl}
 use Rattle.std.proofs.Common.{sym, ap, eqb-true}
 use Rattle.std.proofs.lemmas.Bool.{cond_both, and_parts}

@@ -30,7 +30,8 @@ module _ (v : World) (u : State) (here : IsSameSetting v (world_of u)) where
       → BlocksAgree (λ a. not (b.is_writable && may_write v a)) b (if writes then d else b)
   chosen false b c d is same kept = record { base = refl; size = refl; is_writable = refl; bytes = λ k e. refl }
   chosen true b c d is same kept =
-      let agree : BlocksAgree (denies_store u) b d = subst (λ (x : Block). BlocksAgree (denies_store u) x d) same kept in
+      let agree : BlocksAgree (denies_store u) b d =
+      subst (λ (x : Block). BlocksAgree (denies_store u) x d) same kept in
       record {
         base = agree.base;
         size = agree.size;

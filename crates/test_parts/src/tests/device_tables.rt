@@ -1,5 +1,5 @@
-//! The tables of devices in boards. The expected answers come from the rule of these tables: the first refusal, table by
-//! table, and in a table key by key.
+//! The tables of devices in boards. The expected answers come from the rule of these tables: the first refusal, table
+//! by table, and in a table key by key.
 
 use crate::tests::boards::{BETWEEN, answer, push, push_line, text_of};
 use std::alloc::Global;

@@ -15,7 +15,8 @@ characters-preserved c =
     c.push.ensures ∙ ap (clipped 198 c.characters.shown) (c.as_str.ensures.value ∙ c.visible.ensures) in (
       IsUtf8-past_char _ _ c.in-Some.character held.0 parts,
       joined_more 198 visible c.characters.shown c.push.new.self (joined 198 visible empty (chars c.args.text.now))
-          (chars_rest c.characters.character-iterator) (chars_rest c.next.new.self) c.in-Some.character held.0 parts pushed held.1,
+          (chars_rest c.characters.character-iterator) (chars_rest c.next.new.self) c.in-Some.character held.0 parts
+          pushed held.1,
     )
 
 pub returns-then-is_cut : goal.returns-then-is_cut
@@ -25,8 +26,8 @@ returns-then-is_cut c =
     let pushed : c.push.new.self ≡ clipped 198 c.characters.shown (visible c.in-Some.character) =
     c.push.ensures ∙ ap (clipped 198 c.characters.shown) (c.as_str.ensures.value ∙ c.visible.ensures) in
     joined_last 198 visible c.characters.shown c.push.new.self (joined 198 visible empty (chars c.args.text.now))
-    (chars_rest c.characters.character-iterator) (chars_rest c.next.new.self) c.in-Some.character held.0 parts pushed held.1
-    (sym c.is_cut.ensures ∙ c.if-is_cut.true)
+    (chars_rest c.characters.character-iterator) (chars_rest c.next.new.self) c.in-Some.character held.0 parts pushed
+    held.1 (sym c.is_cut.ensures ∙ c.if-is_cut.true)
 
 pub returns : goal.returns
 returns c =

@@ -8,4 +8,5 @@ use Rattle.messages.proofs.quoted.escape_all.Given as goal
 abbrev pub invariant-characters : goal.invariant-characters
 invariant-characters l =
     IsUtf8 (chars_rest l.character-iterator)
-    × (joined 198 visible l.shown (chars (chars_rest l.character-iterator)) ≡ joined 198 visible empty (chars l.fn.text))
+    × (joined 198 visible l.shown (chars (chars_rest l.character-iterator))
+    ≡ joined 198 visible empty (chars l.fn.text))

@@ -13,8 +13,10 @@ characters-preserved c =
     let pushed : c.push_quoted.new.shown ≡ clipped 198 c.characters.shown (in_quotes c.in-Some.character) =
     c.push_quoted.ensures in (
       IsUtf8-past_char _ _ c.in-Some.character held.0 parts,
-      joined_more 198 in_quotes c.characters.shown c.push_quoted.new.shown (joined 198 in_quotes empty (chars c.args.text.now))
-          (chars_rest c.characters.character-iterator) (chars_rest c.next.new.self) c.in-Some.character held.0 parts pushed held.1,
+      joined_more 198 in_quotes c.characters.shown c.push_quoted.new.shown
+          (joined 198 in_quotes empty (chars c.args.text.now))
+          (chars_rest c.characters.character-iterator) (chars_rest c.next.new.self) c.in-Some.character held.0 parts
+          pushed held.1,
     )
 
 pub returns-then-is_cut : goal.returns-then-is_cut
@@ -23,8 +25,9 @@ returns-then-is_cut c =
     let parts = c.in-Some.ensures.steps.0 in
     let pushed : c.push_quoted.new.shown ≡ clipped 198 c.characters.shown (in_quotes c.in-Some.character) =
     c.push_quoted.ensures in
-    joined_last 198 in_quotes c.characters.shown c.push_quoted.new.shown (joined 198 in_quotes empty (chars c.args.text.now))
-    (chars_rest c.characters.character-iterator) (chars_rest c.next.new.self) c.in-Some.character held.0 parts pushed held.1
+    joined_last 198 in_quotes c.characters.shown c.push_quoted.new.shown
+    (joined 198 in_quotes empty (chars c.args.text.now)) (chars_rest c.characters.character-iterator)
+    (chars_rest c.next.new.self) c.in-Some.character held.0 parts pushed held.1
     (sym c.is_cut.ensures ∙ c.if-is_cut.true)
 
 pub returns : goal.returns
