@@ -33,6 +33,7 @@ use Rattle.reference.specs.Run.{after}
 use Rattle.reference.specs.State.{State}
 use Rattle.reference.specs.Step.{step}
 use Rattle.serving.specs.Pieces.{last_state}
+use Rattle.step_laws.specs.TickLaw.{TakesTick}
 
 -- ---- the places after a mark, from the last one down
 
@@ -190,22 +191,15 @@ module _ (points : Points) (k : Settings) (m : State) (n now : ℕ) (some : 0 < 
 
 -- ---- a step and a step back
 
--- each step of a machine that runs counts a tick, where the clock isn't at its end
-abbrev pub CountsTicks : Type 0
-CountsTicks =
-    (s : State) → s.stop ≡ None → nat_le last_tick (tick_of s) ≡ false → tick_of (step s).state ≡ tick_of s + 1
-
 -- the clock after some steps
-counted : (limit : ℕ) (s : State) (n : ℕ) → CountsTicks → limit ≤ last_tick
+counted : (limit : ℕ) (s : State) (n : ℕ) → ((u : State) → TakesTick u) → limit ≤ last_tick
     → ((i : ℕ) → i < n → (after i s).stop ≡ None) → IsEarly limit s n → tick_of (after n s) ≡ tick_of s + n
 unfolding after
-counted limit s zero counts within going early = omega arith
-counted limit s (suc n) counts within going early =
+counted limit s zero ticks within going early = omega arith
+counted limit s (suc n) ticks within going early =
     let now = early n (omega arith) in
-    let below : nat_le last_tick (tick_of (after n s)) ≡ false = (let less : tick_of (after n s) < last_tick =
-    omega (arith, now, within) in grind (arith, nat_tests)) in
-    let one = counts (after n s) (going n (omega arith)) below in
-    let before = counted limit s n counts within (λ i less. going i (omega (arith, less)))
+    let one = ticks (after n s) (going n (omega arith)) (omega (arith, now, within)) in
+    let before = counted limit s n ticks within (λ i less. going i (omega (arith, less)))
     (λ i less. early i (omega (arith, less))) in
     omega (arith, one, before)
 
@@ -243,14 +237,15 @@ alike_after k j (returning.Ends signal) sent past alike same = record {
   past = same ∙ alike.past;
 }
 
-pub back_law : CountsTicks → (k j : Session) (s : State) (tail more : List ℕ) → StepBackLaw k j s tail more
-back_law counts k j s tail more may goes =
+pub back_law : ((u : State) → TakesTick u) → (k j : Session) (s : State) (tail more : List ℕ)
+    → StepBackLaw k j s tail more
+back_law ticks k j s tail more may goes =
     let here = may.here in
     let t : Turned = turn k.points k.settings k.features k.limit (first_turn Step) s in
     let unit = turn_unit k.limit k.settings may.into k.points k.features (first_turn Step) s refl refl refl in
     let there : State = last_state s t.pieces in
     let tick : tick_of there ≡ tick_of s + unit.steps =
-    ap tick_of unit.state ∙ counted k.limit s unit.steps counts may.limit unit.going unit.early in
+    ap tick_of unit.state ∙ counted k.limit s unit.steps ticks may.limit unit.going unit.early in
     let some : 0 < unit.steps = omega (arith, goes.made, tick) in
     let now : tick_of there ≡ tick_of here.mark + (here.steps + unit.steps) = omega (arith, tick, here.tick) in
     let low : ℕ = low_of j.features (tick_of there) in
@@ -286,8 +281,8 @@ unit_in : (k : Session) (o : Turn) (stop : Option Stop) (X : Type 0) → (with_t
 unit_in k (turning.Asks run) stop X ended trap goes whole = absurd (let w : ⊥ = cc in w)
 unit_in k (turning.Ends signal) stop X ended trap goes whole = whole trap goes
 
-pub again_law : CountsTicks → (k : Session) (s : State) (tail : List ℕ) → StepAgainLaw k s tail
-again_law counts k s tail may made =
+pub again_law : ((u : State) → TakesTick u) → (k : Session) (s : State) (tail : List ℕ) → StepAgainLaw k s tail
+again_law ticks k s tail may made =
     let here = may.here in
     let t : Turned = turn k.points k.settings k.features k.limit (first_turn Step) s in
     let unit = turn_unit k.limit k.settings may.into k.points k.features (first_turn Step) s refl refl refl in
@@ -296,7 +291,7 @@ again_law counts k s tail may made =
     let ends = unit_in (record k { sent = t.sent }) t.outcome (after unit.steps s).stop (EndsIn s unit.steps) made.ended
     made.signal goes (unit.whole (made.breakpoints, made.watchpoints)) in
     let tick : tick_of there ≡ tick_of s + unit.steps =
-    ap tick_of unit.state ∙ counted k.limit s unit.steps counts may.limit unit.going unit.early in
+    ap tick_of unit.state ∙ counted k.limit s unit.steps ticks may.limit unit.going unit.early in
     let is = ends.is in
     let number : here.steps + unit.steps ≡ suc (here.steps + ends.index) = omega (arith, is) in record {
       may = may_after k t.outcome t.sent there (record {

@@ -20,7 +20,7 @@ ghost use Rattle.platform.specs.Boards.{Numbers};
 ghost use Rattle.reference.specs.State.{State};
 ghost use Rattle.serving.specs.declared.sessions.SessionError.{SessionError};
 
-use step_laws::signals_are_events;
+use step_laws::a_step_takes_a_tick;
 
 /// A session that only reads leaves the machine: all that it writes is written in the state that the machine had, and
 /// the session's past stays.
@@ -63,5 +63,5 @@ pub fn a_step_back_undoes_a_step()
     ensures back { (k j : Session) (s : State) (tail more : List ℕ) → StepBackLaw k j s tail more }
     ensures again { (k : Session) (s : State) (tail : List ℕ) → StepAgainLaw k s tail }
 {
-    signals_are_events();
+    a_step_takes_a_tick();
 }

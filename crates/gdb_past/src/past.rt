@@ -12,7 +12,7 @@ use crate::position::make_steps;
 use machine::{Decider, Exceptions, KeptCode, Machine, SavedState, SysTickState};
 use std::alloc::{AllocError, Global};
 use std::marker::Model;
-use step_laws::signals_are_events;
+use step_laws::a_step_takes_a_tick;
 
 /// The most marks.
 const MAX_MARKS: usize = 8;
@@ -329,7 +329,7 @@ impl<L: Exceptions, U: SysTickState> Past<L, U> {
         match machine.stop() {
             Some(_) => {}
             None => {
-                signals_are_events();
+                a_step_takes_a_tick();
                 let marks = self.count();
                 prove!(marks > 0);
                 let steps = tick.saturating_sub(self.tick(0));

@@ -9,8 +9,9 @@ pub use state_laws::{
     signal_keeps_the_invariant, start_gives_the_invariant, step_keeps_the_invariant,
 };
 pub use step_laws::{
-    accesses_of_a_step, board_stays, frame_gives_registers_back, regions_change_by_writes,
-    return_gives_registers_back, signals_are_events, words_of_devices_change_by_accesses_and_pokes,
+    a_step_takes_a_tick, accesses_of_a_step, board_stays, frame_gives_registers_back,
+    regions_change_by_writes, return_gives_registers_back, signals_are_events,
+    words_of_devices_change_by_accesses_and_pokes,
 };
 pub use task_laws::{
     access_of_a_task, runs_of_tasks_end_alike, runs_of_tasks_end_in_one_way, step_of_a_task,

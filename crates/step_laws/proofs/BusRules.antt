@@ -3,7 +3,7 @@
 -- - `BusRules B` has a field for each of the four. Registers, sleep, the entry phase and a stop aren't in the bus.
 -- - An instance proves these, and has `bus_keeps`, where the property holds before and after the tick. A failure needs
 --   nothing further: it sets status bits, makes an exception pending and adds its line.
-use Rattle.std.proofs.Common.{◌≡◌, ℕ, ◌==◌, List, [], ◌∷◌, ◌++◌, Option, None, refl}
+use Rattle.std.proofs.Common.{◌≡◌, ℕ, nat_le, false, ◌==◌, List, [], ◌∷◌, ◌++◌, Option, None, refl}
 use Rattle.std.proofs.lemmas.Bool.{cond_both}
 use Rattle.platform.specs.declared.access.Request.{Request}
 use Rattle.platform.specs.declared.event.Event.{Event}
@@ -16,6 +16,7 @@ use Rattle.platform.specs.Events.{access_of}
 use Rattle.platform.specs.Priorities.{Nvic, is_fixed}
 use Rattle.platform.specs.Status.{Status, with_fault_bits}
 use Rattle.platform.specs.System.{System, deactivated, exception_ended, is_asserted, with_nvic}
+use Rattle.platform.specs.Time.{last_tick}
 use Rattle.reference.specs.declared.failure.Failure.{Failure}
 use Rattle.reference.specs.declared.failure.Failure.TheVariants as failure
 use Rattle.reference.specs.Accesses.{access_lines, perform}
@@ -24,7 +25,7 @@ use Rattle.reference.specs.Faults.{escalated, failed, fault_line, fault_of, faul
 use Rattle.reference.specs.Faults.{vector_fault, with_status}
 use Rattle.reference.specs.State.{Bus, State, Stepped, ticked}
 use Rattle.reference.specs.Step.{step}
-use Rattle.step_laws.proofs.StepRules.{StepRules, step_keeps}
+use Rattle.step_laws.proofs.StepRules.{StepRules, made_keeps, step_keeps}
 
 -- the bus with another System Control Space
 abbrev pub with_control : Bus → System → Bus
@@ -130,3 +131,8 @@ module _ {B : Bus → List Event → Type 0} (k : BusRules B) where
   -- a step keeps it
   pub bus_keeps : (s : State) → B s.bus [] → B (ticked s).bus [] → B (step s).state.bus (step s).events
   bus_keeps s h after = step_keeps bus_rules s h (λ early. after)
+
+  -- a step that is made keeps what holds after the tick
+  pub bus_made_keeps : (s : State) → s.stop ≡ None → nat_le last_tick s.bus.system.time.ticks ≡ false
+      → B (ticked s).bus [] → B (step s).state.bus (step s).events
+  bus_made_keeps s goes early after = made_keeps bus_rules s goes early after

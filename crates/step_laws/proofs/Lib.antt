@@ -15,3 +15,4 @@ mod Stacks
 mod Returns
 mod Signals
 pub mod Sizes
+mod Ticks

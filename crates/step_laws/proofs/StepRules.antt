@@ -425,3 +425,14 @@ module _ {P : Option Failure → State → List Event → Type 0} {Q : Stepped �
   pub step_keeps : (s : State) → P None s [] → AfterTick s → Q (step s)
   unfolding step
   step_keeps s p after = stopped_keeps s s.stop p after
+
+  -- a step that is made, of a machine that hasn't stopped and whose clock isn't at its end: what holds after the tick
+  unless_made_keeps : (s : State) (stop : Option Stop) → stop ≡ None
+      → nat_le last_tick s.bus.system.time.ticks ≡ false → P None (ticked s) [] → Q (unless_stopped s stop)
+  unless_made_keeps s (Some why) goes early p = absurd (let w : ⊥ = cc in w)
+  unless_made_keeps s None goes early p = rw early (phase_keeps (ticked s) s.entry _ refl refl p)
+
+  pub made_keeps : (s : State) → s.stop ≡ None → nat_le last_tick s.bus.system.time.ticks ≡ false
+      → P None (ticked s) [] → Q (step s)
+  unfolding step
+  made_keeps s goes early p = unless_made_keeps s s.stop goes early p

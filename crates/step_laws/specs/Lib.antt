@@ -6,3 +6,4 @@ pub mod FrameLaw
 pub mod RegionLaw
 pub mod SignalLaw
 pub mod SizeLaw
+pub mod TickLaw

@@ -16,6 +16,7 @@ ghost use Rattle.step_laws.specs.FrameLaw.{FrameGivesBack, ReturnGivesBack};
 ghost use Rattle.step_laws.specs.RegionLaw.{RegionsStay};
 ghost use Rattle.step_laws.specs.SignalLaw.{SignalIsEvent};
 ghost use Rattle.step_laws.specs.SizeLaw.{AreOfOneBoard, KeepsBoard};
+ghost use Rattle.step_laws.specs.TickLaw.{TakesTick};
 
 /// At most one access of a step is refused. It is the step's last access, and the next event is the
 /// line of its fault, which ends the step. The blocks of memory keep their addresses and sizes, and their bytes
@@ -66,4 +67,9 @@ pub fn words_of_devices_change_by_accesses_and_pokes()
 /// Bus that was carried out.
 pub fn regions_change_by_writes()
     ensures { RegionsStay }
+{}
+
+/// A step of a machine that hasn't stopped takes one tick, unless its clock is at its end.
+pub fn a_step_takes_a_tick()
+    ensures { (s : State) → TakesTick s }
 {}

@@ -13,5 +13,5 @@ save_to-requires-clause-state g c = λ m.
     let first : c.tick.result ≡ tick_of mark = c.tick.ensures m in
     let count : tick_of s - tick_of mark ≡ c.saturating_sub-steps.result =
     omega (arith, first, c.requires.tick, c.saturating_sub-steps.ensures) in
-    by_ticks c.signals_are_events.ensures c.requires.ahead.steps mark s (c.requires.ahead.there m) runs
+    by_ticks c.a_step_takes_a_tick.ensures c.requires.ahead.steps mark s (c.requires.ahead.there m) runs
     ∙ ap (λ i. after i mark) count
