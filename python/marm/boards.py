@@ -119,14 +119,20 @@ class Board:
         return self._with(BoardEvent(at, None, poke=address, value=value))
 
     def _with(self, event: BoardEvent) -> Board:
-        return replace(self, events=tuple(sorted((*self.events, event), key=lambda it: it.at)))
+        return replace(self, events=tuple(sorted((*self.events, event), key=_tick_of)))
 
     def toml(self) -> str:
         """Returns the text of the board's file."""
         parts = ["".join(f"{key} = {getattr(self, key)}\n" for key in KEYS)]
         if self.ram is not None:
             parts.append(f"[[ram]]\nbase = {self.ram.base}\nsize = {self.ram.size}\n")
-        return "\n".join([*parts, *(it.toml() for it in (*self.devices, *self.events))])
+        parts += [device.toml() for device in self.devices]
+        parts += [event.toml() for event in self.events]
+        return "\n".join(parts)
+
+
+def _tick_of(event: BoardEvent) -> int:
+    return event.at
 
 
 def _event(at: int, line: Optional[int] = None, what: str = "pulse", nmi: bool = False, poke: Optional[int] = None,
