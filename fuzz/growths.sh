@@ -2,10 +2,10 @@
 # Refuses each growth of memory of the proved program in turn, and compares its answer with that of a run in which none
 # is refused. Where a growth is refused, the answer is the same, or it is one of those for memory that ran out, with
 # nothing on standard output: `marm: io` (5), `marm: board 7 OutOfMemory` (3), `marm: start 11 NoMemory` (3). Of a file
-# that is refused the lines below the first may be missing. A segment outside of memory is never NoMemory. After each
-# such run one without a refusal gives the whole answer. Prints for each case how many growths there are and how the
-# runs ended. Ends with 1 where an answer was another, where the growths of a case weren't counted, as of a program that
-# is linked statically, and where no case has a growth.
+# that is refused the lines below the first may be missing, and of a run its notes. A segment outside of memory is never
+# NoMemory. After each such run one without a refusal gives the whole answer. Prints for each case how many growths
+# there are and how the runs ended. Ends with 1 where an answer was another, where the growths of a case weren't counted,
+# as of a program that is linked statically, and where no case has a growth.
 # Usage: fuzz/growths.sh [PROGRAM]
 set -euo pipefail
 top=$(cd "$(dirname "${BASH_SOURCE[0]}")/.." && pwd)
@@ -39,7 +39,7 @@ wrong=0
 total=0
 # Tries each growth of a case, which has a name and arguments.
 try() {
-    local name=$1 number growths refusals=0 same=0
+    local name=$1 number growths refusals=0 same=0 noteless=0
     local -A ends=()
     shift
     rm -f count
@@ -54,8 +54,10 @@ try() {
     growths=$(cat count)
     for ((number = 1; number <= growths; number++)); do
         answer "$number" "$@"
-        if [ "$status" = "$whole" ] && cmp -s out whole.out && cmp -s err whole.err; then
+        if is_whole "$whole" whole.err; then
             same=$((same + 1))
+        elif is_whole "$whole" <(sed '/^marm: note: /d' whole.err); then
+            noteless=$((noteless + 1))
         elif [ ! -s out ] && is_stated "$whole" "$line"; then
             refusals=$((refusals + 1))
             ends[$first]=$((${ends[$first]:-0} + 1))
@@ -64,16 +66,22 @@ try() {
             wrong=$((wrong + 1))
         fi
         answer 0 "$@"
-        if [ "$status" != "$whole" ] || ! cmp -s out whole.out || ! cmp -s err whole.err; then
+        if ! is_whole "$whole" whole.err; then
             echo "$name: after growth $number: status $status, $first" >&2
             wrong=$((wrong + 1))
         fi
     done
     total=$((total + growths))
+    [ "$noteless" = 0 ] || echo "$name: the same answer without its notes $noteless times"
     echo "$name: $growths growths; the same answer $same times, refused $refusals times"
     for first in "${!ends[@]}"; do
         echo "    ${ends[$first]} times $first"
     done
+}
+
+# Whether the last answer has this status, the whole standard output, and this standard error.
+is_whole() {
+    [ "$status" = "$1" ] && cmp -s out whole.out && cmp -s err "$2"
 }
 
 # Whether the last answer is one for memory that ran out, or the first line of the file's refusal.
@@ -87,6 +95,8 @@ is_stated() {
 
 try "a run" run --board small.toml --steps 10 first.elf
 try "a run beside events" run --board events.toml --steps 2 first.elf
+try "the tasks" tasks --board small.toml --steps 10 first.elf
+try "a page" report --board small.toml --steps 10 first.elf
 try "a session" debug --board small.toml first.elf
 try "a segment outside of memory" run --board small.toml --steps 10 outside.elf
 try "a board out of range" run --board refused.toml --steps 10 first.elf
