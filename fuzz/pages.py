@@ -25,6 +25,12 @@ def other_lines():
     return re.findall(r"^\| `\d+ ([^`]+)` \|", table, re.M)
 
 
+def refusals():
+    """Returns the lines of a value or a signal that is refused, as docs/DEBUGGING.md has them."""
+    table = page("DEBUGGING.md").split("| Refusal | When |", 1)[1].split("\n\n", 1)[0]
+    return re.findall(r"^\| `(refused [^`]+)` \|", table, re.M)
+
+
 def commands():
     """Returns the commands of docs/DEBUGGING.md, each with the lines of its answer: `mem a n` with `<a>: <bytes>`."""
     table = page("DEBUGGING.md").split("| Command | Lines |", 1)[1].split("\n\n", 1)[0]

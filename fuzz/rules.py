@@ -57,6 +57,7 @@ PARTS = {
     "kind": "(?:Instruction|Stack|Vector|Sleep)",
     "next": "(?:Instruction|Stack|Vector|Sleep|stop [a-z0-9 -]+)",
     "usage": "[a-z][^\n]*  [a-z][^\n]*",
+    "stop": f"(?:{'|'.join(['lockup', 'reset', *NAMES])})",
 }
 
 
@@ -67,7 +68,8 @@ def form(line):
 
 # The other lines of a debug session: of its commands, and of a line that is none.
 # Each form is there once, so that a wrong answer is told from them without trying each of their orders.
-OTHER = "|".join(dict.fromkeys([*(form(line) for lines in pages.commands().values() for line in lines), "error [12]\n"]))
+SHOWN = [*(line for lines in pages.commands().values() for line in lines), *pages.refusals(), "error [12]"]
+OTHER = "|".join(dict.fromkeys(map(form, SHOWN)))
 
 TRACE = {
     0: re.compile(f"(?:{LINE})*{QUIET}".encode()),
