@@ -22,6 +22,7 @@ use std::io::Write;
 /// answers to `out`, or the refusal to `err`. Returns the exit status: 0 where the session ended, 3 for a refused
 /// image, board or start or where memory runs out, 5 where `input` or `out` failed. No answer waits to be sent at the
 /// end, unless `out` failed.
+#[inline(never)]
 pub fn serve_gdb<I: In, O: Out, E: Write>(
     alloc: Global,
     image: InputFile<'_>,

@@ -29,6 +29,7 @@ const PAGE_BYTES: usize = 0x20_0000;
 /// refusal to `err`, the error first and then its reason. Returns the exit status: 0 after all steps or at a
 /// breakpoint, 3 for a refused image, board or start, or where memory runs out, 4 at another stop, 5 where `out`
 /// failed.
+#[inline(never)]
 pub fn report<O: Out, E: Write>(
     alloc: Global,
     image: InputFile<'_>,

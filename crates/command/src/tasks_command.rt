@@ -33,6 +33,7 @@ pub struct TasksResult {
 /// refusal to `err`, the error first and then its reason. Returns the exit status: 0 after all steps or at a
 /// breakpoint, 3 for a refused image, board or start, or where memory runs out, 4 at another stop, 5 where `out`
 /// failed. With `options.expect_apart` it is 0 where all worlds are apart and 1 where they aren't, in place of 0 and 4.
+#[inline(never)]
 pub fn tasks<O: Out, E: Write>(
     alloc: Global,
     image: InputFile<'_>,
