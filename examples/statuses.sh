@@ -15,7 +15,8 @@ expect() {
     shift 2
     "$marm" "$@" >"$work/out" 2>"$work/err" || got=$?
     local first
-    first=$(cat "$work/out" "$work/err" | head -n 1)
+    # (no pipe: `cat` would end by SIGPIPE)
+    IFS= read -r first < <(cat "$work/out" "$work/err") || :
     if [ "$got" != "$status" ] || [ "$first" != "$line" ]; then
         echo "marm $*: status $got and '$first', not $status and '$line'"
         failed=1
@@ -55,5 +56,8 @@ for line in "R0 00000005" "PC 0000000A" "CLOCK 2"; do
 done
 expect 5 "1 F 00000008 2 p ok off" run --board "$board" --steps 10 --state "$work/no/state" "$top/examples/first.elf"
 has "$work/no/state: No such file or directory"
+expect 5 "1 F 00000008 2 p ok off" run --board "$board" --steps 10 --dump "0x20000000:16=$work/no/dump" \
+    "$top/examples/first.elf"
+has "$work/no/dump: No such file or directory"
 [ "$failed" = 0 ] && echo "each status is as it is to be"
 exit "$failed"
