@@ -24,7 +24,7 @@ shift $((OPTIND - 1))
 [ $# -gt 0 ] || set -- O0 O1 O2 O3 Os confined-O2
 top=$(cd "$(dirname "${BASH_SOURCE[0]}")/.." && pwd)
 marm=$("$top/marm" --proved)
-sources=$(find /usr/src/gcc-12 -name 'gcc-12*.tar.xz' 2>/dev/null | head -n 1)
+sources=$(find /usr/src/gcc-12 -name 'gcc-12*.tar.xz' 2>/dev/null | head -n 1 || :)
 [ -n "$sources" ] || { echo "crosscheck: the sources of gcc aren't there: install gcc-12-source" >&2; exit 1; }
 folder=$(mktemp -d)
 trap 'rm -rf "$folder"' EXIT

@@ -1,11 +1,11 @@
 """What a run and a session need at most, as docs/ROBUSTNESS.md says: stack, address space, processor time."""
 
 # KiB of stack: without its board, for a byte of the board's file, and at most.
-STACK, STACK_OF_BOARD, MAX_STACK = 704, 0.25, 2560
+STACK, STACK_OF_BOARD, MAX_STACK = 384, 0.25, 2048
 
-# KiB of address space: of the program with 2 MiB of flash and RAM and 14 MiB of kept instructions, for a byte of the
+# KiB of address space: of the program with 2 MiB of flash and RAM and 32 MiB of kept instructions, for a byte of the
 # image's file, and of the board's.
-SPACE, SPACE_OF_IMAGE, SPACE_OF_BOARD = 24 * 1024, 4 / 1024, 1
+SPACE, SPACE_OF_IMAGE, SPACE_OF_BOARD = 44 * 1024, 4 / 1024, 1
 
 # Seconds of processor time: of a start, of a byte that is written, of a step, of a byte of the board or the commands.
 START, WRITTEN, STEP, READ = 0.5, 1e-6, 20e-6, 10e-6

@@ -17,6 +17,9 @@ SMALL = os.path.join(TOP, "examples", "boards", "small.toml")
 COMMANDS = b"step\nbreak 8\nwatch w 0x20000000 4\nstop faults on\ntrace refused\nregs\nregions\nmem 0 256\nexplain 0 p x\n"
 COMMANDS += b"task 3\nrun 9\nclear\nstate\nnext\nhelp\nscript 1\nrun 9\nquit\n"
 
+# A session of gdb: registers, a step, and the end.
+PACKETS = b"$g#67$s#73+$D#44"
+
 # The most bytes of a file.
 MOST = 1 << 24
 
@@ -94,6 +97,7 @@ def seconds_a_mib(path):
 figures = {
     "need stack, run, KiB": least_stack(run(SMALL, steps=1000)),
     "need stack, debug, KiB": least_stack(["debug", "--board", SMALL, FIRST], COMMANDS),
+    "need stack, gdb, KiB": least_stack(["gdb", "--board", SMALL, FIRST], PACKETS),
     "need stack, deepest board, KiB": least_stack(run(deep)),
     "need memory, small board, KiB": start,
     "need memory, large board, KiB": memory_of(run(large, full)),
