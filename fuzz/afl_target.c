@@ -47,13 +47,20 @@ static void mark(const char *text) {
 
 static int begins(const char *text, const char *with) { return strncmp(text, with, strlen(with)) == 0; }
 
+/* Returns whether each line on standard error is a note. */
+static int has_only_notes(void) {
+    for (const char *line = err; *line; line = strchr(line, '\n') + 1)
+        if (!begins(line, "marm: note: ") || !strchr(line, '\n')) return 0;
+    return 1;
+}
+
 /* Returns whether a status, the first line on standard error and the output go together. */
 static int is_right(int status, int is_run, size_t length) {
     static const char *const refusals[] = {"marm: load ", "marm: board ", "marm: start ", "marm: size\n"};
     switch (status) {
     case 0:
     case 4: {
-        if (*err || (status == 4 && !is_run)) return 0;
+        if (is_run ? !has_only_notes() : *err || status == 4) return 0;
         if (!is_run || length == ROOM) return 1;
         const char *last = out + length - (length > 0);
         while (last > out && last[-1] != '\n') last--;

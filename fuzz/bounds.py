@@ -1,7 +1,7 @@
 """What a run and a session need at most, as docs/ROBUSTNESS.md says: stack, address space, processor time."""
 
 # KiB of stack: without its board, for a byte of the board's file, and at most.
-STACK, STACK_OF_BOARD, MAX_STACK = 384, 0.25, 2048
+STACK, STACK_OF_BOARD, MAX_STACK = 384, 0.25, 3072
 
 # KiB of address space: of the program with 2 MiB of flash and RAM and 32 MiB of kept instructions, for a byte of the
 # image's file, and of the board's.

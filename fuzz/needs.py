@@ -80,7 +80,7 @@ events = "".join(f'[[event]]\nat = {at}\nline = {at % 8}\nwhat = "pulse"\n' for 
 plain = board("plain.toml", events)
 # (each part of a key is a table of its own)
 hostile = board("hostile.toml", *(f"a{number}." + "c." * 78 + "c = 1" for number in range(6500)))
-deep = board("deep.toml", f"x = {boards.nested(80)}")
+deep = board("deep.toml", f"x = {boards.nested(80)}", f"y = {'[{a=' * 80}")
 image = written(FOLDER, "large.elf", elf(b"\0").ljust(MOST, b"\0"))
 full = written(FOLDER, "full.elf", elf(bytes(1 << 20)))
 large = written(FOLDER, "large.toml", (SIZES + "lines = 240\nregions = 16\n").encode())
