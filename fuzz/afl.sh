@@ -28,10 +28,10 @@ printf 'regs\nregions\nstep\nbreak 0x100\nrun 50\nexplain 0x20000000 u w\nmem 0x
 # what AFL++ puts into its inputs as a whole: keys, values and commands
 printf '"%s"\n' flash_base flash_size ram_size priority_bits lines regions '[[event]]' 'at = ' 'line = ' 'what = ' \
     rise fall pulse 'nmi = true' 'step\x0a' 'run 9\x0a' 'task 9\x0a' 'break 0x2' 'regs\x0a' 'mem 0x2' 'explain 0x2' \
-    '[[device]]' '[[ram]]' 'base = ' 'size = ' 'by = ' 'load_poke = ' 'store_value = ' 'enable = ' 'poke = ' 'value = ' \
-    'place word 0x2' 'place reg ' 'place special ' 'signal pulse ' 'signal nmi\x0a' 'save 0\x0a' 'back 0\x0a' \
-    'watch w 0x2' 'stop faults on\x0a' 'trace none\x0a' 'clear\x0a' 'state\x0a' 'next\x0a' 'help\x0a' 'script 1\x0a' \
-    'quit\x0a' >"$folder/words"
+    '[[device]]' '[[ram]]' 'base = ' 'size = ' 'by = ' 'load_poke = ' 'store_value = ' 'enable = ' 'poke = ' \
+    'value = ' 'place word 0x2' 'place reg ' 'place special ' 'signal pulse ' 'signal nmi\x0a' 'save 0\x0a' \
+    'back 0\x0a' 'watch w 0x2' 'stop faults on\x0a' 'trace none\x0a' 'clear\x0a' 'state\x0a' 'next\x0a' 'help\x0a' \
+    'script 1\x0a' 'quit\x0a' >"$folder/words"
 export AFL_SKIP_CPUFREQ=1 AFL_NO_UI=1 AFL_NO_AFFINITY=1 AFL_I_DONT_CARE_ABOUT_MISSING_CRASHES=1 AFL_MAP_SIZE=65536
 wrong=0
 for kind in "$@"; do

@@ -1,5 +1,5 @@
-"""Tries images, boards, debug sessions and arguments on the proved program, until the time is over, and prints how many
-of each, the first lines of the answers, and each answer that isn't as rules.py wants it."""
+"""Tries images, boards, sessions and arguments on the proved program, until the time is over, and prints how many of
+each, the first lines of the answers, and each answer that isn't as rules.py wants it."""
 
 import collections
 import multiprocessing
@@ -13,6 +13,7 @@ import boards
 import bounds
 import corpus
 import images
+import packets
 import rules
 import sessions
 from programs import answer_of, written
@@ -22,14 +23,21 @@ SECONDS, JOBS, FIRST = (int(word) for word in sys.argv[6:9])
 
 STEPS = [0, 1, 10, 100, 100, 300, 1000, 1000, 10_000]
 
+# How many of a hundred cases are of each kind.
+KINDS = {"image": 30, "board": 27, "both": 5, "session": 20, "arguments": 5, "tasks": 4, "page": 3, "gdb": 6}
+
+# What each answer has to be: where nothing is named, that of a run.
+JUDGES = {"session": rules.wrong_session, "arguments": rules.wrong_words, "tasks": rules.wrong_tasks}
+JUDGES |= {"page": rules.wrong_page, "gdb": rules.wrong_packets}
+
 
 class Case:
     """A case: its files, its arguments, the commands on standard input, and the most steps that it makes."""
 
     def __init__(self, source, seeds, folder):
-        self.kind = source.choices(["image", "board", "both", "session", "arguments"], [35, 30, 5, 25, 5])[0]
+        self.kind = source.choices(list(KINDS), list(KINDS.values()))[0]
         self.image, self.board = source.choice(seeds.pairs)
-        if self.kind in ("image", "both") or self.kind == "session" and source.random() < 0.3:
+        if self.kind in ("image", "both", "page", "tasks") or self.kind in ("session", "gdb") and source.random() < 0.3:
             self.image, self.board = images.image(source, seeds)
         if self.kind in ("board", "both"):
             self.board = boards.board(source, seeds)
@@ -40,19 +48,22 @@ class Case:
             self.session, self.words = sessions.session(source, seeds), ["debug", "--board", paths[1], paths[0]]
         elif self.kind == "arguments":
             self.words = sessions.arguments(source, *paths)
+        elif self.kind in ("tasks", "page", "gdb"):
+            self.words[0] = "report" if self.kind == "page" else self.kind
+            self.session = packets.session(source) if self.kind == "gdb" else b""
 
     def wrong(self, counts):
         """Returns what is wrong with the answers, or None; counts the first lines."""
         answer = answer_of([MARM, *self.words], self.session)
         if answer is None:
             return "no end in time"
-        judge = {"session": rules.wrong_session, "arguments": rules.wrong_words}.get(self.kind, rules.wrong_run)
         counts[self.kind, summary(answer)] += 1
+        judge = JUDGES.get(self.kind, rules.wrong_run)
         return judge(answer) or self.wrong_again(answer) or self.wrong_on_slow(answer) or self.wrong_in_session(answer)
 
     def wrong_again(self, answer):
         """Returns what is wrong with a second run, which has no more than docs/ROBUSTNESS.md says that it needs."""
-        limits = bounds.limits(self.image, self.board)
+        limits = bounds.limits(self.image, self.board, self.kind == "gdb")
         again = answer_of([MARM, *self.words], self.session, limits)
         if again is None or not again.same(answer):
             status = "no end" if again is None else f"status {again.status}"

@@ -4,8 +4,8 @@
 # nothing on standard output: `marm: io` (5), `marm: board 7 OutOfMemory` (3), `marm: start 11 NoMemory` (3). Of a file
 # that is refused the lines below the first may be missing, and of a run its notes. A segment outside of memory is never
 # NoMemory. After each such run one without a refusal gives the whole answer. Prints for each case how many growths
-# there are and how the runs ended. Ends with 1 where an answer was another, where the growths of a case weren't counted,
-# as of a program that is linked statically, and where no case has a growth.
+# there are and how the runs ended. Ends with 1 where an answer was another, where the growths of a case weren't
+# counted, as of a program that is linked statically, and where no case has a growth.
 # Usage: fuzz/growths.sh [PROGRAM]
 set -euo pipefail
 top=$(cd "$(dirname "${BASH_SOURCE[0]}")/.." && pwd)

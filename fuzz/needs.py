@@ -17,8 +17,8 @@ SMALL = os.path.join(TOP, "examples", "boards", "small.toml")
 COMMANDS = b"step\nbreak 8\nwatch w 0x20000000 4\nstop faults on\ntrace refused\nregs\nregions\nmem 0 256\nexplain 0 p x\n"
 COMMANDS += b"task 3\nrun 9\nclear\nstate\nnext\nhelp\nscript 1\nrun 9\nquit\n"
 
-# A session of gdb: registers, a step, and the end.
-PACKETS = b"$g#67$s#73+$D#44"
+# A session of gdb: registers, a run, a step back, and the end.
+PACKETS = b"$g#67$c#63+$bs#d5+$D#44"
 
 # The most bytes of a file.
 MOST = 1 << 24
@@ -101,6 +101,7 @@ figures = {
     "need stack, deepest board, KiB": least_stack(run(deep)),
     "need memory, small board, KiB": start,
     "need memory, large board, KiB": memory_of(run(large, full)),
+    "need memory, gdb, KiB": memory_of(["gdb", "--board", large, "--steps", "1000", full], PACKETS),
     "need memory, byte of image": f"{(memory_of(run(SMALL, image)) - start) * 1024 / MOST:.1f}",
     "need memory, byte of plain board": f"{(memory_of(run(plain)) - start) * 1024 / os.path.getsize(plain):.0f}",
     "need memory, byte of hostile board": f"{(memory_of(run(hostile)) - start) * 1024 / os.path.getsize(hostile):.0f}",

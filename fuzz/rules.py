@@ -77,6 +77,24 @@ TRACE = {
 }
 ANSWERS = re.compile(f"(?:{LINE}|{QUIET}|{NAMED_STOP}|{OTHER})*".encode())
 
+# The lines of `marm tasks` (docs/TASKS.md).
+COUNT = "[1-9][0-9]*"
+WORLDS = (
+    f"world {COUNT} steps {COUNT} tick {COUNT} pc {WORD} code {WORD} {WORD}(?: [^\n]+)?\n"
+    f"|map {COUNT} {WORD} {WORD} (?:flash|ram|window) (?:[r-][w-][x-]) {RULE}\n"
+    f"|apart {COUNT} {COUNT}\n|shares {COUNT} {COUNT} {WORD} {WORD}\n|others {COUNT}\n"
+)
+TASKS = {
+    0: re.compile(f"(?:{WORLDS})*{QUIET}".encode()),
+    4: re.compile(f"(?:{WORLDS})*{NAMED_STOP}".encode()),
+}
+
+# The parts of a session of gdb: acknowledgements, and packets with their checksums.
+REPLY = re.compile(rb"[+-]|\$([^$#]*)#([0-9a-f]{2})")
+
+# The most bytes of a page (docs/REPORT.md).
+MAX_PAGE = 2 << 20
+
 
 def wrong_refusal(answer):
     """Returns what is wrong with a refusal: its first line, or something on standard output."""
@@ -99,6 +117,38 @@ def wrong_run(answer):
     if not TRACE[answer.status].fullmatch(answer.out):
         return f"status {answer.status} with a trace that doesn't have its form"
     return None
+
+
+def wrong_tasks(answer):
+    """Returns what is wrong with the text about the worlds of a run, or None."""
+    if answer.status in FIRST:
+        return wrong_refusal(answer)
+    if answer.status not in TASKS or answer.err:
+        return f"status {answer.status}, and {len(answer.err)} bytes on standard error"
+    return None if TASKS[answer.status].fullmatch(answer.out) else "a text about worlds that doesn't have its form"
+
+
+def wrong_page(answer):
+    """Returns what is wrong with the page about a run, or None."""
+    if answer.status in FIRST:
+        return wrong_refusal(answer)
+    if answer.status not in TRACE or answer.err:
+        return f"status {answer.status}, and {len(answer.err)} bytes on standard error"
+    is_page = answer.out.startswith(b"<!DOCTYPE html>\n") and answer.out.endswith(b"</html>\n")
+    return None if is_page and len(answer.out) < MAX_PAGE else f"{len(answer.out)} bytes that are no page"
+
+
+def wrong_packets(answer):
+    """Returns what is wrong with a session of gdb, or None."""
+    if answer.status in FIRST:
+        return wrong_refusal(answer)
+    if answer.status != 0 or answer.err:
+        return f"status {answer.status}, and {len(answer.err)} bytes on standard error"
+    replies = list(REPLY.finditer(answer.out))
+    if sum(len(reply[0]) for reply in replies) != len(answer.out):
+        return "an answer that isn't made of packets"
+    is_right = all(reply[2] is None or sum(reply[1]) % 256 == int(reply[2], 16) for reply in replies)
+    return None if is_right else "a packet with another checksum"
 
 
 def wrong_session(answer):

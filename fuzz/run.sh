@@ -1,9 +1,10 @@
 #!/usr/bin/env bash
-# Tries images, boards, debug sessions and arguments, made of those of the repository and at random, on the proved
-# program. Each answer has a status and a first line that go together, or a trace of the right form; a second run within
-# the limits that docs/ROBUSTNESS.md states writes the same bytes; so does the machine Slow; and a session that makes
-# the steps of a run writes its lines. Prints how many cases ended how, and each finding with a folder that has its
-# files and its command. The same SEED makes the same cases, from case FIRST on. Runs JOBS processes side by side (2).
+# Tries images, boards, sessions of debug and gdb, and arguments, made of those of the repository and at random, on the
+# proved program. Each answer has a status and a first line that go together, or a trace, a page or an answer of the
+# right form; a second run within the limits that docs/ROBUSTNESS.md states writes the same bytes; so does the machine
+# Slow; and a session that makes the steps of a run writes its lines. Prints how many cases ended how, and each finding
+# with a folder that has its files and its command. The same SEED makes the same cases, from case FIRST on. Runs JOBS
+# processes side by side (2).
 # Usage: [JOBS=2] [FIRST=0] fuzz/run.sh [SECONDS] [SEED]
 set -euo pipefail
 top=$(cd "$(dirname "${BASH_SOURCE[0]}")/.." && pwd)
