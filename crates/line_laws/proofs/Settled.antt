@@ -7,7 +7,7 @@ use Rattle.devices.specs.Devices.{DeviceWords, after_store_at, loaded, value_at}
 use Rattle.devices.specs.Lines.{levels}
 use Rattle.devices.specs.Pokes.{poked_all}
 use Rattle.line_laws.proofs.Levels.{HasInputs, devices_reached, signal_length}
-use Rattle.line_laws.proofs.Parts.{system_part}
+use Rattle.step_laws.proofs.Parts.{system_part}
 use Rattle.line_laws.specs.LineLaw.{AreAt, HasSettledLines}
 use Rattle.nvic.proofs.Tables.{table_loaded, table_poked_all, table_stored}
 use Rattle.platform.specs.declared.access.Request.{Request}

@@ -1,7 +1,6 @@
 -- The devices of a board stay: a step, a value and a signal change their words alone.
-use Rattle.std.proofs.Common.{◌≡◌, ℕ, ◌+◌, ◌*◌, ◌/◌, ◌++◌, Bool, true, false, not, ◌||◌, List, [], ◌∷◌, Option, Some}
-use Rattle.std.proofs.Common.{None}
-use Rattle.std.proofs.Common.{Result, Ok, Err, refl, sym, ◌∙◌}
+use Rattle.std.proofs.Common.{◌≡◌, ℕ, ◌+◌, List, [], ◌∷◌}
+use Rattle.std.proofs.Common.{refl, sym, ◌∙◌}
 use Rattle.std.proofs.lemmas.Bool.{cond_both}
 use Rattle.devices.proofs.Copying.{same_after_load, same_after_poke, same_after_store}
 use Rattle.devices.specs.declared.device.Poke.{Poke}
@@ -10,27 +9,20 @@ use Rattle.devices.specs.Devices.{DeviceWords, poked, word_at}
 use Rattle.devices.specs.Pokes.{poked_all}
 use Rattle.platform.specs.declared.access.Request.{Request}
 use Rattle.platform.specs.declared.access.Rule.{Rule}
-use Rattle.platform.specs.declared.mpu.MpuStop.{MpuStop}
 use Rattle.platform.specs.declared.script.Signal.{Signal}
-use Rattle.platform.specs.declared.stop.Stop.{Stop}
-use Rattle.platform.specs.declared.system.SystemRegister.{SystemRegister}
-use Rattle.platform.specs.declared.system.SystemRegister.TheVariants as register
-use Rattle.platform.specs.Control.{write_control}
-use Rattle.platform.specs.Kinds.{is_load, is_probe, is_store}
+use Rattle.platform.specs.Kinds.{is_probe, is_store}
 use Rattle.platform.specs.Map.{is_in_ppb}
 use Rattle.platform.specs.Outcomes.{Outcome}
-use Rattle.platform.specs.Priorities.{Nvic}
-use Rattle.platform.specs.Regions.{Mpu, write as write_mpu}
-use Rattle.platform.specs.Status.{Status, write_status}
-use Rattle.platform.specs.System.{System, after_pokes, after_read, after_signal, after_tick, device_access, has_access}
-use Rattle.platform.specs.System.{has_width, in_place, mpu_written, nvic_written, on_interrupts, poke_of, pokes_of}
-use Rattle.platform.specs.System.{register_access, register_at, register_written, settled, status_written}
-use Rattle.platform.specs.System.{system_access, time_passed, with_devices, write_performed}
+use Rattle.platform.specs.System.{System, after_pokes, after_signal, after_tick, device_access}
+use Rattle.platform.specs.System.{on_interrupts, poke_of, pokes_of}
+use Rattle.platform.specs.System.{settled}
+use Rattle.platform.specs.System.{system_access, time_passed, with_devices}
 use Rattle.platform.specs.Time.{events_at}
 use Rattle.reference.specs.Accesses.{carried_out, decision, is_to_device, perform}
 use Rattle.reference.specs.State.{Bus, State}
 use Rattle.reference.specs.Step.{step}
 use Rattle.step_laws.proofs.BusRules.{BusRules, bus_keeps}
+use Rattle.step_laws.proofs.Parts.{system_part}
 use Rattle.step_laws.proofs.Settling.{settled_part}
 
 -- ---- lists of the same devices
@@ -62,64 +54,13 @@ pokes_same ds es ticks (p ∷ ps) h =
 
 -- ---- a register leaves them
 
-abbrev LeavesDevices : System → Result System Stop → Type 0
-LeavesDevices s (Ok after) = after.devices ≡ s.devices
-LeavesDevices s (Err why) = Unit {0}
-
-nvic_leaves : (s : System) (r : Result Nvic Stop) → LeavesDevices s (nvic_written s r)
-nvic_leaves s (Ok n) = refl
-nvic_leaves s (Err why) = tt
-
-status_leaves : (s : System) (r : Result Status Stop) → LeavesDevices s (status_written s r)
-status_leaves s (Ok st) = refl
-status_leaves s (Err why) = tt
-
-mpu_leaves : (s : System) (r : Result Mpu MpuStop) → LeavesDevices s (mpu_written s r)
-mpu_leaves s (Ok m) = refl
-mpu_leaves s (Err why) = tt
-
-written_leaves : (s : System) (q : Request) (it : SystemRegister) → LeavesDevices s (register_written s q it)
-unfolding register_written
-written_leaves s q (register.SysTick it) = refl
-written_leaves s q (register.Interrupts it word) = refl
-written_leaves s q (register.Priorities first) = refl
-written_leaves s q (register.Control it) = nvic_leaves s (write_control s.nvic it q.value)
-written_leaves s q (register.Status it) = status_leaves s (write_status s.status it (in_place q))
-written_leaves s q (register.Mpu it) = mpu_leaves s (write_mpu s.mpu it q.value)
-written_leaves s q register.Unlisted = refl
-
-read_leaves : (s : System) (it : SystemRegister) → (after_read s it).devices ≡ s.devices
-unfolding after_read
-read_leaves s (register.SysTick it) = refl
-read_leaves s (register.Interrupts it word) = refl
-read_leaves s (register.Priorities first) = refl
-read_leaves s (register.Control it) = refl
-read_leaves s (register.Status it) = refl
-read_leaves s (register.Mpu it) = refl
-read_leaves s register.Unlisted = refl
-
-performed_leaves : (s : System) (rule : Rule) (r : Result System Stop) → LeavesDevices s r →
-    (write_performed s rule r).after.devices ≡ s.devices
-performed_leaves s rule (Ok after) h = h
-performed_leaves s rule (Err why) h = refl
-
-abbrev Leaves : System → Outcome System → Type 0
-Leaves s o = o.after.devices ≡ s.devices
-
-register_leaves : (x : ℕ) (s : System) (rule : Rule) (q : Request) (it : SystemRegister) →
-    Leaves s (register_access x s rule q it)
-unfolding register_access
-register_leaves x s rule q it =
-    cond_both (not (has_access s q)) _ _ (Leaves s) (λ e. refl)
-    (λ e. cond_both (not (has_width it q.access.size)) _ _ (Leaves s) (λ f. refl)
-    (λ f. cond_both (is_store q.access.kind) _ _ (Leaves s)
-    (λ g. performed_leaves s rule (register_written s q it) (written_leaves s q it)) (λ g. read_leaves s it)))
-
-pub system_leaves : (x : ℕ) (s : System) (rule : Rule) (q : Request) → Leaves s (system_access x s rule q)
-unfolding system_access
-system_leaves x s rule q =
-    cond_both (is_load q.access.kind || is_store q.access.kind) _ _ (Leaves s)
-    (λ e. register_leaves x s rule q (register_at (q.access.address / 4 * 4))) (λ e. refl)
+pub system_leaves : (x : ℕ) (s : System) (rule : Rule) (q : Request) → (system_access x s rule q).after.devices ≡ s.devices
+system_leaves = system_part (λ t. t.devices) (record {
+  systick = λ s t. refl;
+  nvic = λ s n. refl;
+  status = λ s st. refl;
+  mpu = λ s m. refl;
+})
 
 -- ---- what changes words
 

@@ -1,5 +1,6 @@
 pub mod StepRules
 pub mod Settling
+pub mod Parts
 pub mod Devices
 pub mod Reaching
 pub mod BusRules

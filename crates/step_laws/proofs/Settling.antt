@@ -1,6 +1,6 @@
 -- What settles changes the exceptions and which interrupts are high, and nothing else: neither do pokes, but for the
 -- words of devices.
-use Rattle.std.proofs.Common.{◌≡◌, ℕ, ◌+◌, Bool, true, false, not, if◌then◌else◌, List, [], ◌∷◌, refl, ◌∙◌, ap}
+use Rattle.std.proofs.Common.{◌≡◌, ℕ, ◌+◌, Bool, not, List, [], ◌∷◌, refl, ◌∙◌}
 use Rattle.std.proofs.lemmas.Bool.{cond_both}
 use Rattle.devices.specs.declared.device.Poke.{Poke}
 use Rattle.devices.specs.declared.level.Level.{Level}

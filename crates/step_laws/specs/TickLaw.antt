@@ -1,5 +1,5 @@
 -- How long a step takes (profile).
-use Rattle.std.specs.Prelude.{◌≡◌, ℕ, ◌+◌, ◌<◌, None}
+use Rattle.std.specs.Prelude.{◌≡◌, ◌+◌, ◌<◌, None}
 use Rattle.platform.specs.Time.{last_tick}
 use Rattle.reference.specs.State.{State}
 use Rattle.reference.specs.Step.{step}
