@@ -119,47 +119,49 @@ def wrong_run(answer):
     return None
 
 
-def wrong_tasks(answer):
-    """Returns what is wrong with the text about the worlds of a run, or None."""
+def wrong_unless(answer, statuses, wrong_output):
+    """Returns what is wrong with a refusal; or with an answer that has to have one of these statuses, nothing on
+    standard error, and an output in which nothing is wrong."""
     if answer.status in FIRST:
         return wrong_refusal(answer)
-    if answer.status not in TASKS or answer.err:
-        return f"status {answer.status}, and {len(answer.err)} bytes on standard error"
-    return None if TASKS[answer.status].fullmatch(answer.out) else "a text about worlds that doesn't have its form"
+    if answer.status not in statuses:
+        return f"status {answer.status}"
+    return f"status {answer.status} with a byte on standard error" if answer.err else wrong_output(answer)
+
+
+def wrong_tasks(answer):
+    """Returns what is wrong with the text about the worlds of a run, or None."""
+    wrong = "a text about worlds that doesn't have its form"
+    return wrong_unless(answer, TASKS, lambda it: None if TASKS[it.status].fullmatch(it.out) else wrong)
 
 
 def wrong_page(answer):
     """Returns what is wrong with the page about a run, or None."""
-    if answer.status in FIRST:
-        return wrong_refusal(answer)
-    if answer.status not in TRACE or answer.err:
-        return f"status {answer.status}, and {len(answer.err)} bytes on standard error"
-    is_page = answer.out.startswith(b"<!DOCTYPE html>\n") and answer.out.endswith(b"</html>\n")
-    return None if is_page and len(answer.out) < MAX_PAGE else f"{len(answer.out)} bytes that are no page"
+
+    def wrong_output(it):
+        is_page = it.out.startswith(b"<!DOCTYPE html>\n") and it.out.endswith(b"</html>\n")
+        return None if is_page and len(it.out) < MAX_PAGE else f"{len(it.out)} bytes that are no page"
+
+    return wrong_unless(answer, TRACE, wrong_output)
 
 
 def wrong_packets(answer):
     """Returns what is wrong with a session of gdb, or None."""
-    if answer.status in FIRST:
-        return wrong_refusal(answer)
-    if answer.status != 0 or answer.err:
-        return f"status {answer.status}, and {len(answer.err)} bytes on standard error"
-    replies = list(REPLY.finditer(answer.out))
-    if sum(len(reply[0]) for reply in replies) != len(answer.out):
-        return "an answer that isn't made of packets"
-    is_right = all(reply[2] is None or sum(reply[1]) % 256 == int(reply[2], 16) for reply in replies)
-    return None if is_right else "a packet with another checksum"
+
+    def wrong_output(it):
+        replies = list(REPLY.finditer(it.out))
+        if sum(len(reply[0]) for reply in replies) != len(it.out):
+            return "an answer that isn't made of packets"
+        is_right = all(reply[2] is None or sum(reply[1]) % 256 == int(reply[2], 16) for reply in replies)
+        return None if is_right else "a packet with another checksum"
+
+    return wrong_unless(answer, [0], wrong_output)
 
 
 def wrong_session(answer):
     """Returns what is wrong with the answer of a debug session, or None."""
-    if answer.status in FIRST:
-        return wrong_refusal(answer)
-    if answer.status != 0:
-        return f"status {answer.status}"
-    if answer.err:
-        return "status 0 with a byte on standard error"
-    return None if ANSWERS.fullmatch(answer.out) else "an answer that doesn't have its form"
+    wrong = "an answer that doesn't have its form"
+    return wrong_unless(answer, [0], lambda it: None if ANSWERS.fullmatch(it.out) else wrong)
 
 
 def wrong_words(answer):
