@@ -13,9 +13,8 @@ use Rattle.instruction_set.specs.declared.instruction.InstructionLength.TheVaria
 use Rattle.instruction_set.specs.declared.system.System.TheVariants as system
 use Rattle.instruction_set.specs.declared.system.SpecialRegister.{SpecialRegister}
 use Rattle.instruction_set.specs.declared.unpredictable.UnpredictableCase.TheVariants as cause
-use Rattle.instruction_set.specs.Patterns.{unspaced}
 use Rattle.instruction_set.specs.RowOperands.{hint_of, special_of}
-use Rattle.instruction_set.specs.Rows.{Letters, Row, long, placed, unless, is_bad}
+use Rattle.instruction_set.specs.Rows.{Letters, Row, long, placed, unless, is_bad, row, row_but}
 use Rattle.instruction_set.specs.Words.{sign_extended}
 
 -- the parts of a branch's offset: S, J1, J2, imm10 or imm6, and imm11. In the rows the letters J, K, j and i are J1,
@@ -80,85 +79,33 @@ long_hint_of number = if nat_lt number 240 then hint_of number else hint.Debug
 
 -- ---- the rows
 
--- MSR, encoding T1
 abbrev pub msr_t1 : Row
-msr_t1 = record {
-  places = unspaced (codes "11110 0 1110 0 z nnnn 10 z 0 kk zz ssssssss");
-  except = [];
-  gives = λ f. move_to_special_row f.n f.k f.s;
-}
-
--- MRS, encoding T1
+msr_t1 = row (codes "11110 0 1110 0 z nnnn 10 z 0 kk zz ssssssss") (λ f. move_to_special_row f.n f.k f.s)
 abbrev pub mrs_t1 : Row
-mrs_t1 = record {
-  places = unspaced (codes "11110 0 1111 1 z oooo 10 z 0 dddd ssssssss");
-  except = [];
-  gives = λ f. move_from_special_row f.d f.s;
-}
-
+mrs_t1 = row (codes "11110 0 1111 1 z oooo 10 z 0 dddd ssssssss") (λ f. move_from_special_row f.d f.s)
 -- The hints of 32 bits, encoding T2, and DBG, encoding T1
 abbrev pub nop_t2 : Row
-nop_t2 = record {
-  places = unspaced (codes "11110 0 1110 10 oooo 10 z 0 z 000 hhhhhhhh");
-  except = [];
-  gives = λ f. long (System (system.Hint (long_hint_of f.h)));
-}
-
--- CLREX, encoding T1
+nop_t2 = row (codes "11110 0 1110 10 oooo 10 z 0 z 000 hhhhhhhh") (λ f. long (System (system.Hint (long_hint_of f.h))))
 abbrev pub clrex_t1 : Row
-clrex_t1 = record {
-  places = unspaced (codes "11110 0 1110 11 oooo 10 z 0 oooo 0010 oooo");
-  except = [];
-  gives = λ f. long (Exclusive exclusive.Clear);
-}
-
--- DSB, encoding T1
+clrex_t1 = row (codes "11110 0 1110 11 oooo 10 z 0 oooo 0010 oooo") (λ f. long (Exclusive exclusive.Clear))
 abbrev pub dsb_t1 : Row
-dsb_t1 = record {
-  places = unspaced (codes "11110 0 1110 11 oooo 10 z 0 oooo 0100 xxxx");
-  except = [];
-  gives = λ f. long (System (system.Hint hint.Barrier));
-}
-
--- DMB, encoding T1
+dsb_t1 = row (codes "11110 0 1110 11 oooo 10 z 0 oooo 0100 xxxx") (λ f. long (System (system.Hint hint.Barrier)))
 abbrev pub dmb_t1 : Row
-dmb_t1 = record {
-  places = unspaced (codes "11110 0 1110 11 oooo 10 z 0 oooo 0101 xxxx");
-  except = [];
-  gives = λ f. long (System (system.Hint hint.Barrier));
-}
-
--- ISB, encoding T1
+dmb_t1 = row (codes "11110 0 1110 11 oooo 10 z 0 oooo 0101 xxxx") (λ f. long (System (system.Hint hint.Barrier)))
 abbrev pub isb_t1 : Row
-isb_t1 = record {
-  places = unspaced (codes "11110 0 1110 11 oooo 10 z 0 oooo 0110 xxxx");
-  except = [];
-  gives = λ f. long (System (system.Hint hint.Barrier));
-}
-
--- BL, encoding T1
+isb_t1 = row (codes "11110 0 1110 11 oooo 10 z 0 oooo 0110 xxxx") (λ f. long (System (system.Hint hint.Barrier)))
 abbrev pub bl_t1 : Row
-bl_t1 = record {
-  places = unspaced (codes "11110 S jjjjjjjjjj 11 J 1 K iiiiiiiiiii");
-  except = [];
-  gives = λ f. branch_with_link_row (wide_offset (branch_offset f));
-}
-
--- B, encoding T4
+bl_t1 =
+    row (codes "11110 S jjjjjjjjjj 11 J 1 K iiiiiiiiiii")
+    (λ f. branch_with_link_row (wide_offset (branch_offset f)))
 abbrev pub b_t4 : Row
-b_t4 = record {
-  places = unspaced (codes "11110 S jjjjjjjjjj 10 J 1 K iiiiiiiiiii");
-  except = [];
-  gives = λ f. branch_wide_row (wide_offset (branch_offset f));
-}
-
+b_t4 = row (codes "11110 S jjjjjjjjjj 10 J 1 K iiiiiiiiiii") (λ f. branch_wide_row (wide_offset (branch_offset f)))
 -- B, encoding T3; with condition 111x these halfwords are those of the rows above, or UNDEFINED
 abbrev pub b_t3 : Row
-b_t3 = record {
-  places = unspaced (codes "11110 S cccc jjjjjj 10 J 0 K iiiiiiiiiii");
-  except = unspaced (codes "xxxxx x 111x xxxxxx xx x x x xxxxxxxxxxx") ∷ [];
-  gives = λ f. branch_wide_if_row f.c (conditional_offset (branch_offset f));
-}
+b_t3 =
+    row_but (codes "11110 S cccc jjjjjj 10 J 0 K iiiiiiiiiii")
+    (codes "xxxxx x 111x xxxxxx xx x x x xxxxxxxxxxx" ∷ [])
+    (λ f. branch_wide_if_row f.c (conditional_offset (branch_offset f)))
 
 abbrev pub long_control_rows : List Row
 long_control_rows =

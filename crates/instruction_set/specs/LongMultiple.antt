@@ -10,8 +10,7 @@ use Rattle.instruction_set.specs.declared.load_store.ListOrder.TheVariants.{Incr
 use Rattle.instruction_set.specs.declared.load_store.LoadMultiple.{LoadMultiple}
 use Rattle.instruction_set.specs.declared.load_store.StoreMultiple.{StoreMultiple}
 use Rattle.instruction_set.specs.declared.unpredictable.UnpredictableCase.TheVariants as cause
-use Rattle.instruction_set.specs.Patterns.{unspaced}
-use Rattle.instruction_set.specs.Rows.{Row, long, placed, last_only_if, unless}
+use Rattle.instruction_set.specs.Rows.{Row, long, placed, last_only_if, unless, row}
 use Rattle.instruction_set.specs.Words.{is_bit}
 
 -- whether fewer than two bits are set: BitCount(registers) < 2
@@ -35,57 +34,42 @@ load_list_wide_row o =
 
 -- ---- the rows
 
--- STM, encoding T2
 abbrev pub stm_t2 : Row
-stm_t2 = record {
-  places = unspaced (codes "11101 00 01 0 W 0 nnnn z M z lllllllllllll");
-  except = [];
-  gives = λ f. store_list_wide_row (record {
-    base = f.n;
-    list = f.M * 2 ^ 14 + f.l;
-    order = IncrementAfter;
-    write_back = f.W == 1;
-  });
-}
-
--- LDM, encoding T2
+stm_t2 =
+    row (codes "11101 00 01 0 W 0 nnnn z M z lllllllllllll")
+    (λ f. store_list_wide_row (record {
+      base = f.n;
+      list = f.M * 2 ^ 14 + f.l;
+      order = IncrementAfter;
+      write_back = f.W == 1;
+    }))
 abbrev pub ldm_t2 : Row
-ldm_t2 = record {
-  places = unspaced (codes "11101 00 01 0 W 1 nnnn P M z lllllllllllll");
-  except = [];
-  gives = λ f. load_list_wide_row (record {
-    base = f.n;
-    list = f.P * 2 ^ 15 + f.M * 2 ^ 14 + f.l;
-    order = IncrementAfter;
-    write_back = f.W == 1;
-  });
-}
-
--- STMDB, encoding T1
+ldm_t2 =
+    row (codes "11101 00 01 0 W 1 nnnn P M z lllllllllllll")
+    (λ f. load_list_wide_row (record {
+      base = f.n;
+      list = f.P * 2 ^ 15 + f.M * 2 ^ 14 + f.l;
+      order = IncrementAfter;
+      write_back = f.W == 1;
+    }))
 abbrev pub stmdb_t1 : Row
-stmdb_t1 = record {
-  places = unspaced (codes "11101 00 10 0 W 0 nnnn z M z lllllllllllll");
-  except = [];
-  gives = λ f. store_list_wide_row (record {
-    base = f.n;
-    list = f.M * 2 ^ 14 + f.l;
-    order = DecrementBefore;
-    write_back = f.W == 1;
-  });
-}
-
--- LDMDB, encoding T1
+stmdb_t1 =
+    row (codes "11101 00 10 0 W 0 nnnn z M z lllllllllllll")
+    (λ f. store_list_wide_row (record {
+      base = f.n;
+      list = f.M * 2 ^ 14 + f.l;
+      order = DecrementBefore;
+      write_back = f.W == 1;
+    }))
 abbrev pub ldmdb_t1 : Row
-ldmdb_t1 = record {
-  places = unspaced (codes "11101 00 10 0 W 1 nnnn P M z lllllllllllll");
-  except = [];
-  gives = λ f. load_list_wide_row (record {
-    base = f.n;
-    list = f.P * 2 ^ 15 + f.M * 2 ^ 14 + f.l;
-    order = DecrementBefore;
-    write_back = f.W == 1;
-  });
-}
+ldmdb_t1 =
+    row (codes "11101 00 10 0 W 1 nnnn P M z lllllllllllll")
+    (λ f. load_list_wide_row (record {
+      base = f.n;
+      list = f.P * 2 ^ 15 + f.M * 2 ^ 14 + f.l;
+      order = DecrementBefore;
+      write_back = f.W == 1;
+    }))
 
 abbrev pub multiple_rows : List Row
 multiple_rows =

@@ -13,8 +13,7 @@ use Rattle.instruction_set.specs.declared.data_processing.FlagSetting.TheVariant
 use Rattle.instruction_set.specs.declared.data_processing.MultiplyAccumulate.{MultiplyAccumulate}
 use Rattle.instruction_set.specs.declared.data_processing.MultiplyLong.{MultiplyLong}
 use Rattle.instruction_set.specs.declared.unpredictable.UnpredictableCase.TheVariants as cause
-use Rattle.instruction_set.specs.Patterns.{unspaced}
-use Rattle.instruction_set.specs.Rows.{Letters, Row, long, unless, is_bad}
+use Rattle.instruction_set.specs.Rows.{Letters, Row, long, unless, is_bad, row, row_but}
 
 -- MUL
 unfoldable pub multiply_wide_row : ℕ → ℕ → ℕ → Decoded
@@ -48,61 +47,39 @@ divide_row o =
 
 -- ---- the rows
 
--- MUL, encoding T2
 abbrev pub mul_t2 : Row
-mul_t2 = record {
-  places = unspaced (codes "111110110 000 nnnn 1111 dddd 0000 mmmm");
-  except = [];
-  gives = λ f. multiply_wide_row f.n f.d f.m;
-}
-
+mul_t2 = row (codes "111110110 000 nnnn 1111 dddd 0000 mmmm") (λ f. multiply_wide_row f.n f.d f.m)
 -- MLA, encoding T1; with a = 1111 it is MUL
 abbrev pub mla_t1 : Row
-mla_t1 = record {
-  places = unspaced (codes "111110110 000 nnnn aaaa dddd 0000 mmmm");
-  except = unspaced (codes "xxxxxxxxx xxx xxxx 1111 xxxx xxxx xxxx") ∷ [];
-  gives = λ f. multiply_accumulate_row (product_sum sum.Add f);
-}
-
--- MLS, encoding T1
+mla_t1 =
+    row_but (codes "111110110 000 nnnn aaaa dddd 0000 mmmm")
+    (codes "xxxxxxxxx xxx xxxx 1111 xxxx xxxx xxxx" ∷ [])
+    (λ f. multiply_accumulate_row (product_sum sum.Add f))
 abbrev pub mls_t1 : Row
-mls_t1 = record {
-  places = unspaced (codes "111110110 000 nnnn aaaa dddd 0001 mmmm");
-  except = [];
-  gives = λ f. multiply_accumulate_row (product_sum sum.Subtract f);
-}
-
+mls_t1 =
+    row (codes "111110110 000 nnnn aaaa dddd 0001 mmmm")
+    (λ f. multiply_accumulate_row (product_sum sum.Subtract f))
 -- SMULL, UMULL, SMLAL and UMLAL, encoding T1
 abbrev pub smull_t1 : Row
-smull_t1 = record {
-  places = unspaced (codes "111110111 A u 0 nnnn llll hhhh 0000 mmmm");
-  except = [];
-  gives = λ f. multiply_long_row (record {
-    signed = f.u == 0;
-    accumulates = f.A == 1;
-    low = f.l;
-    high = f.h;
-    first = f.n;
-    second = f.m;
-  });
-}
-
+smull_t1 =
+    row (codes "111110111 A u 0 nnnn llll hhhh 0000 mmmm")
+    (λ f. multiply_long_row (record {
+      signed = f.u == 0;
+      accumulates = f.A == 1;
+      low = f.l;
+      high = f.h;
+      first = f.n;
+      second = f.m;
+    }))
 -- SDIV and UDIV, encoding T1
 abbrev pub sdiv_t1 : Row
-sdiv_t1 = record {
-  places = unspaced (codes "111110111 0 u 1 nnnn oooo dddd 1111 mmmm");
-  except = [];
-  gives = λ f. divide_row (record { signed = f.u == 0; destination = f.d; dividend = f.n; divisor = f.m });
-}
-
+sdiv_t1 =
+    row (codes "111110111 0 u 1 nnnn oooo dddd 1111 mmmm")
+    (λ f. divide_row (record { signed = f.u == 0; destination = f.d; dividend = f.n; divisor = f.m }))
 -- The instructions of coprocessors: every first halfword 111x11.. is NOCP (profile). For 111x1111 the manual is unclear
 -- (docs/CROSSCHECK.md)
 abbrev pub coprocessor : Row
-coprocessor = record {
-  places = unspaced (codes "111 x 11 xx xxxxxxxx xxxxxxxxxxxxxxxx");
-  except = [];
-  gives = λ f. NoCoprocessor;
-}
+coprocessor = row (codes "111 x 11 xx xxxxxxxx xxxxxxxxxxxxxxxx") (λ f. NoCoprocessor)
 
 abbrev pub product_rows : List Row
 product_rows =

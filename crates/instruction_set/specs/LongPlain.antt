@@ -13,9 +13,8 @@ use Rattle.instruction_set.specs.declared.data_processing.MoveOperation.TheVaria
 use Rattle.instruction_set.specs.declared.data_processing.Saturate.{Saturate}
 use Rattle.instruction_set.specs.declared.unpredictable.UnpredictableCase.TheVariants as cause
 use Rattle.instruction_set.specs.LongImmediate.{is_refused_destination}
-use Rattle.instruction_set.specs.Patterns.{unspaced}
 use Rattle.instruction_set.specs.RowOperands.{plain_immediate, shifted_by_number}
-use Rattle.instruction_set.specs.Rows.{Row, long, unless, is_bad}
+use Rattle.instruction_set.specs.Rows.{Row, long, unless, is_bad, row, row_but}
 use Rattle.instruction_set.specs.Words.{negated}
 
 -- ADDW and SUBW: a number of twelve bits, which sets no flags
@@ -83,123 +82,76 @@ clear_field_row d low high =
 
 -- ---- the rows
 
--- ADR, encoding T3
 abbrev pub adr_t3 : Row
-adr_t3 = record {
-  places = unspaced (codes "11110 i 1 00000 1111 0 iii dddd iiiiiiii");
-  except = [];
-  gives = λ f. address_wide_row f.d f.i;
-}
-
+adr_t3 = row (codes "11110 i 1 00000 1111 0 iii dddd iiiiiiii") (λ f. address_wide_row f.d f.i)
 -- ADD (immediate), encoding T4; with n = 1111 it is ADR
 abbrev pub add_immediate_t4 : Row
-add_immediate_t4 = record {
-  places = unspaced (codes "11110 i 1 00000 nnnn 0 iii dddd iiiiiiii");
-  except = unspaced (codes "xxxxx x x xxxxx 1111 x xxx xxxx xxxxxxxx") ∷ [];
-  gives = λ f. add_wide_row Add f.n f.d f.i;
-}
-
--- MOV (immediate), encoding T3
+add_immediate_t4 =
+    row_but (codes "11110 i 1 00000 nnnn 0 iii dddd iiiiiiii")
+    (codes "xxxxx x x xxxxx 1111 x xxx xxxx xxxxxxxx" ∷ [])
+    (λ f. add_wide_row Add f.n f.d f.i)
 abbrev pub mov_immediate_t3 : Row
-mov_immediate_t3 = record {
-  places = unspaced (codes "11110 i 1 00100 nnnn 0 iii dddd iiiiiiii");
-  except = [];
-  gives = λ f. move_wide_row f.d (halfword f.n f.i);
-}
-
--- ADR, encoding T2
+mov_immediate_t3 = row (codes "11110 i 1 00100 nnnn 0 iii dddd iiiiiiii") (λ f. move_wide_row f.d (halfword f.n f.i))
 abbrev pub adr_t2 : Row
-adr_t2 = record {
-  places = unspaced (codes "11110 i 1 01010 1111 0 iii dddd iiiiiiii");
-  except = [];
-  gives = λ f. address_wide_row f.d (negated f.i);
-}
-
+adr_t2 = row (codes "11110 i 1 01010 1111 0 iii dddd iiiiiiii") (λ f. address_wide_row f.d (negated f.i))
 -- SUB (immediate), encoding T4; with n = 1111 it is ADR
 abbrev pub sub_immediate_t4 : Row
-sub_immediate_t4 = record {
-  places = unspaced (codes "11110 i 1 01010 nnnn 0 iii dddd iiiiiiii");
-  except = unspaced (codes "xxxxx x x xxxxx 1111 x xxx xxxx xxxxxxxx") ∷ [];
-  gives = λ f. add_wide_row Subtract f.n f.d f.i;
-}
-
--- MOVT, encoding T1
+sub_immediate_t4 =
+    row_but (codes "11110 i 1 01010 nnnn 0 iii dddd iiiiiiii")
+    (codes "xxxxx x x xxxxx 1111 x xxx xxxx xxxxxxxx" ∷ [])
+    (λ f. add_wide_row Subtract f.n f.d f.i)
 abbrev pub movt_t1 : Row
-movt_t1 = record {
-  places = unspaced (codes "11110 i 1 01100 nnnn 0 iii dddd iiiiiiii");
-  except = [];
-  gives = λ f. move_top_row f.d (halfword f.n f.i);
-}
-
+movt_t1 = row (codes "11110 i 1 01100 nnnn 0 iii dddd iiiiiiii") (λ f. move_top_row f.d (halfword f.n f.i))
 -- SSAT, encoding T1; ASR (h = 1) by 00000 is UNDEFINED
 abbrev pub ssat_t1 : Row
-ssat_t1 = record {
-  places = unspaced (codes "11110 z 1 100 h 0 nnnn 0 iii dddd ii z wwwww");
-  except = unspaced (codes "xxxxx x x xxx 1 x xxxx x 000 xxxx 00 x xxxxx") ∷ [];
-  gives = λ f. saturate_row (record {
-    signed = true;
-    destination = f.d;
-    bits = f.w + 1;
-    source = shifted_by_number f.n (f.h * 2) f.i;
-  });
-}
-
--- SBFX, encoding T1
+ssat_t1 =
+    row_but (codes "11110 z 1 100 h 0 nnnn 0 iii dddd ii z wwwww")
+    (codes "xxxxx x x xxx 1 x xxxx x 000 xxxx 00 x xxxxx" ∷ [])
+    (λ f. saturate_row (record {
+      signed = true;
+      destination = f.d;
+      bits = f.w + 1;
+      source = shifted_by_number f.n (f.h * 2) f.i;
+    }))
 abbrev pub sbfx_t1 : Row
-sbfx_t1 = record {
-  places = unspaced (codes "11110 z 1 10100 nnnn 0 iii dddd ii z wwwww");
-  except = [];
-  gives = λ f. extract_field_row (record {
-    signed = true;
-    destination = f.d;
-    source = f.n;
-    low = f.i;
-    width = f.w + 1;
-  });
-}
-
--- BFC, encoding T1
+sbfx_t1 =
+    row (codes "11110 z 1 10100 nnnn 0 iii dddd ii z wwwww")
+    (λ f. extract_field_row (record {
+      signed = true;
+      destination = f.d;
+      source = f.n;
+      low = f.i;
+      width = f.w + 1;
+    }))
 abbrev pub bfc_t1 : Row
-bfc_t1 = record {
-  places = unspaced (codes "11110 z 1 10110 1111 0 iii dddd ii z wwwww");
-  except = [];
-  gives = λ f. clear_field_row f.d f.i f.w;
-}
-
+bfc_t1 = row (codes "11110 z 1 10110 1111 0 iii dddd ii z wwwww") (λ f. clear_field_row f.d f.i f.w)
 -- BFI, encoding T1; with n = 1111 it is BFC
 abbrev pub bfi_t1 : Row
-bfi_t1 = record {
-  places = unspaced (codes "11110 z 1 10110 nnnn 0 iii dddd ii z wwwww");
-  except = unspaced (codes "xxxxx x x xxxxx 1111 x xxx xxxx xx x xxxxx") ∷ [];
-  gives = λ f. insert_field_row f.n f.d f.i f.w;
-}
-
+bfi_t1 =
+    row_but (codes "11110 z 1 10110 nnnn 0 iii dddd ii z wwwww")
+    (codes "xxxxx x x xxxxx 1111 x xxx xxxx xx x xxxxx" ∷ [])
+    (λ f. insert_field_row f.n f.d f.i f.w)
 -- USAT, encoding T1; ASR (h = 1) by 00000 is UNDEFINED
 abbrev pub usat_t1 : Row
-usat_t1 = record {
-  places = unspaced (codes "11110 z 1 110 h 0 nnnn 0 iii dddd ii z wwwww");
-  except = unspaced (codes "xxxxx x x xxx 1 x xxxx x 000 xxxx 00 x xxxxx") ∷ [];
-  gives = λ f. saturate_row (record {
-    signed = false;
-    destination = f.d;
-    bits = f.w;
-    source = shifted_by_number f.n (f.h * 2) f.i;
-  });
-}
-
--- UBFX, encoding T1
+usat_t1 =
+    row_but (codes "11110 z 1 110 h 0 nnnn 0 iii dddd ii z wwwww")
+    (codes "xxxxx x x xxx 1 x xxxx x 000 xxxx 00 x xxxxx" ∷ [])
+    (λ f. saturate_row (record {
+      signed = false;
+      destination = f.d;
+      bits = f.w;
+      source = shifted_by_number f.n (f.h * 2) f.i;
+    }))
 abbrev pub ubfx_t1 : Row
-ubfx_t1 = record {
-  places = unspaced (codes "11110 z 1 11100 nnnn 0 iii dddd ii z wwwww");
-  except = [];
-  gives = λ f. extract_field_row (record {
-    signed = false;
-    destination = f.d;
-    source = f.n;
-    low = f.i;
-    width = f.w + 1;
-  });
-}
+ubfx_t1 =
+    row (codes "11110 z 1 11100 nnnn 0 iii dddd ii z wwwww")
+    (λ f. extract_field_row (record {
+      signed = false;
+      destination = f.d;
+      source = f.n;
+      low = f.i;
+      width = f.w + 1;
+    }))
 
 abbrev pub plain_rows : List Row
 plain_rows =

@@ -16,9 +16,8 @@ use Rattle.instruction_set.specs.declared.shift.ShiftType.TheVariants.{Lsl, Lsr,
 use Rattle.instruction_set.specs.declared.size.Size.{Size}
 use Rattle.instruction_set.specs.declared.size.Size.TheVariants.{Byte, Halfword}
 use Rattle.instruction_set.specs.declared.unpredictable.UnpredictableCase.TheVariants as cause
-use Rattle.instruction_set.specs.Patterns.{unspaced}
 use Rattle.instruction_set.specs.RowOperands.{flags_if}
-use Rattle.instruction_set.specs.Rows.{Row, long, unless, is_bad}
+use Rattle.instruction_set.specs.Rows.{Row, long, unless, is_bad, row}
 
 -- LSL, LSR, ASR and ROR by their two bits
 abbrev pub shift_type_of : ℕ → ShiftType
@@ -50,71 +49,40 @@ rearrange_wide_row operation again d m =
 
 -- LSL, LSR, ASR and ROR (register), encoding T2
 abbrev pub lsl_register_t2 : Row
-lsl_register_t2 = record {
-  places = unspaced (codes "11111010 0 tt S nnnn 1111 dddd 0000 mmmm");
-  except = [];
-  gives = λ f. shift_by_register_row (record {
-    shift_type = shift_type_of f.t;
-    flags = flags_if (f.S == 1);
-    destination = f.d;
-    source = f.n;
-    amount = f.m;
-  });
-}
-
+lsl_register_t2 =
+    row (codes "11111010 0 tt S nnnn 1111 dddd 0000 mmmm")
+    (λ f. shift_by_register_row (record {
+      shift_type = shift_type_of f.t;
+      flags = flags_if (f.S == 1);
+      destination = f.d;
+      source = f.n;
+      amount = f.m;
+    }))
 -- SXTH, UXTH, SXTB and UXTB, encoding T2
 abbrev pub sxth_t2 : Row
-sxth_t2 = record {
-  places = unspaced (codes "11111010 0 b 0 u 1111 1111 dddd 1 z rr mmmm");
-  except = [];
-  gives = λ f. extend_wide_row (record {
-    signed = f.u == 0;
-    size = extended_size f.b;
-    destination = f.d;
-    source = f.m;
-    rotation = f.r * 8;
-  });
-}
-
--- REV, encoding T2
+sxth_t2 =
+    row (codes "11111010 0 b 0 u 1111 1111 dddd 1 z rr mmmm")
+    (λ f. extend_wide_row (record {
+      signed = f.u == 0;
+      size = extended_size f.b;
+      destination = f.d;
+      source = f.m;
+      rotation = f.r * 8;
+    }))
 abbrev pub rev_t2 : Row
-rev_t2 = record {
-  places = unspaced (codes "11111010 1 001 nnnn 1111 dddd 1 0 00 mmmm");
-  except = [];
-  gives = λ f. rearrange_wide_row ReverseWord f.n f.d f.m;
-}
-
--- REV16, encoding T2
+rev_t2 = row (codes "11111010 1 001 nnnn 1111 dddd 1 0 00 mmmm") (λ f. rearrange_wide_row ReverseWord f.n f.d f.m)
 abbrev pub rev16_t2 : Row
-rev16_t2 = record {
-  places = unspaced (codes "11111010 1 001 nnnn 1111 dddd 1 0 01 mmmm");
-  except = [];
-  gives = λ f. rearrange_wide_row ReverseHalfwords f.n f.d f.m;
-}
-
--- RBIT, encoding T1
+rev16_t2 =
+    row (codes "11111010 1 001 nnnn 1111 dddd 1 0 01 mmmm")
+    (λ f. rearrange_wide_row ReverseHalfwords f.n f.d f.m)
 abbrev pub rbit_t1 : Row
-rbit_t1 = record {
-  places = unspaced (codes "11111010 1 001 nnnn 1111 dddd 1 0 10 mmmm");
-  except = [];
-  gives = λ f. rearrange_wide_row ReverseBits f.n f.d f.m;
-}
-
--- REVSH, encoding T2
+rbit_t1 = row (codes "11111010 1 001 nnnn 1111 dddd 1 0 10 mmmm") (λ f. rearrange_wide_row ReverseBits f.n f.d f.m)
 abbrev pub revsh_t2 : Row
-revsh_t2 = record {
-  places = unspaced (codes "11111010 1 001 nnnn 1111 dddd 1 0 11 mmmm");
-  except = [];
-  gives = λ f. rearrange_wide_row ReverseSignedHalfword f.n f.d f.m;
-}
-
--- CLZ, encoding T1
+revsh_t2 =
+    row (codes "11111010 1 001 nnnn 1111 dddd 1 0 11 mmmm")
+    (λ f. rearrange_wide_row ReverseSignedHalfword f.n f.d f.m)
 abbrev pub clz_t1 : Row
-clz_t1 = record {
-  places = unspaced (codes "11111010 1 011 nnnn 1111 dddd 1 0 00 mmmm");
-  except = [];
-  gives = λ f. rearrange_wide_row CountLeadingZeros f.n f.d f.m;
-}
+clz_t1 = row (codes "11111010 1 011 nnnn 1111 dddd 1 0 00 mmmm") (λ f. rearrange_wide_row CountLeadingZeros f.n f.d f.m)
 
 abbrev pub register_rows : List Row
 register_rows =

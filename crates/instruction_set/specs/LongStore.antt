@@ -10,9 +10,8 @@ use Rattle.instruction_set.specs.declared.load_store.StoreRegister.{StoreRegiste
 use Rattle.instruction_set.specs.declared.size.Size.{Size}
 use Rattle.instruction_set.specs.declared.size.Size.TheVariants.{Byte, Halfword, Word}
 use Rattle.instruction_set.specs.declared.unpredictable.UnpredictableCase.TheVariants as cause
-use Rattle.instruction_set.specs.Patterns.{unspaced}
 use Rattle.instruction_set.specs.RowOperands.{writes_back, at_offset, signed_offset, indexing_of}
-use Rattle.instruction_set.specs.Rows.{Row, long, unless, is_bad}
+use Rattle.instruction_set.specs.Rows.{Row, long, unless, is_bad, row_but}
 use Rattle.instruction_set.specs.Sizes.{is_word}
 
 -- the size of the two bits 00, 01 and 10
@@ -47,54 +46,40 @@ store_indexed_row o =
 
 -- STR (immediate), encoding T3; STRB and STRH, encoding T2
 abbrev pub str_immediate_t3 : Row
-str_immediate_t3 = record {
-  places = unspaced (codes "11111000 1 ss 0 nnnn tttt iiiiiiiiiiii");
-  except =
-      unspaced (codes "xxxxxxxx x xx x 1111 xxxx xxxxxxxxxxxx") ∷
-      unspaced (codes "xxxxxxxx x 11 x xxxx xxxx xxxxxxxxxxxx") ∷ [];
-  gives = λ f. store_at_row (size_of f.s) f.t (at_offset f.n f.i);
-}
-
+str_immediate_t3 =
+    row_but (codes "11111000 1 ss 0 nnnn tttt iiiiiiiiiiii")
+    (codes "xxxxxxxx x xx x 1111 xxxx xxxxxxxxxxxx" ∷ codes "xxxxxxxx x 11 x xxxx xxxx xxxxxxxxxxxx" ∷ [])
+    (λ f. store_at_row (size_of f.s) f.t (at_offset f.n f.i))
 -- STR, STRB and STRH (register), encoding T2
 abbrev pub str_register_t2 : Row
-str_register_t2 = record {
-  places = unspaced (codes "11111000 0 ss 0 nnnn tttt 0 00000 ii mmmm");
-  except =
-      unspaced (codes "xxxxxxxx x xx x 1111 xxxx x xxxxx xx xxxx") ∷
-      unspaced (codes "xxxxxxxx x 11 x xxxx xxxx x xxxxx xx xxxx") ∷ [];
-  gives = λ f. store_indexed_row (record {
-    size = size_of f.s;
-    target = f.t;
-    address = record { base = f.n; index = f.m; shift = f.i };
-  });
-}
-
+str_register_t2 =
+    row_but (codes "11111000 0 ss 0 nnnn tttt 0 00000 ii mmmm")
+    (codes "xxxxxxxx x xx x 1111 xxxx x xxxxx xx xxxx" ∷ codes "xxxxxxxx x 11 x xxxx xxxx x xxxxx xx xxxx" ∷ [])
+    (λ f. store_indexed_row (record {
+      size = size_of f.s;
+      target = f.t;
+      address = record { base = f.n; index = f.m; shift = f.i };
+    }))
 -- STRT, STRBT and STRHT, encoding T1
 abbrev pub strt_t1 : Row
-strt_t1 = record {
-  places = unspaced (codes "11111000 0 ss 0 nnnn tttt 1 1 1 0 iiiiiiii");
-  except =
-      unspaced (codes "xxxxxxxx x xx x 1111 xxxx x x x x xxxxxxxx") ∷
-      unspaced (codes "xxxxxxxx x 11 x xxxx xxxx x x x x xxxxxxxx") ∷ [];
-  gives = λ f. store_unprivileged_row (size_of f.s) f.t (at_offset f.n f.i);
-}
-
+strt_t1 =
+    row_but (codes "11111000 0 ss 0 nnnn tttt 1 1 1 0 iiiiiiii")
+    (codes "xxxxxxxx x xx x 1111 xxxx x x x x xxxxxxxx" ∷ codes "xxxxxxxx x 11 x xxxx xxxx x x x x xxxxxxxx" ∷ [])
+    (λ f. store_unprivileged_row (size_of f.s) f.t (at_offset f.n f.i))
 -- STR (immediate), encoding T4; STRB and STRH, encoding T3; P, U, W = 110 are the unprivileged forms, and P = 0 with
 -- W = 0 is UNDEFINED
 abbrev pub str_immediate_t4 : Row
-str_immediate_t4 = record {
-  places = unspaced (codes "11111000 0 ss 0 nnnn tttt 1 P U W iiiiiiii");
-  except =
-      unspaced (codes "xxxxxxxx x xx x 1111 xxxx x x x x xxxxxxxx") ∷
-      unspaced (codes "xxxxxxxx x 11 x xxxx xxxx x x x x xxxxxxxx") ∷
-      unspaced (codes "xxxxxxxx x xx x xxxx xxxx x 1 1 0 xxxxxxxx") ∷
-      unspaced (codes "xxxxxxxx x xx x xxxx xxxx x 0 x 0 xxxxxxxx") ∷ [];
-  gives = λ f. store_at_row (size_of f.s) f.t (record {
-    base = f.n;
-    offset = signed_offset f.U f.i;
-    indexing = indexing_of f.P f.W;
-  });
-}
+str_immediate_t4 =
+    row_but (codes "11111000 0 ss 0 nnnn tttt 1 P U W iiiiiiii")
+    (codes "xxxxxxxx x xx x 1111 xxxx x x x x xxxxxxxx" ∷
+     codes "xxxxxxxx x 11 x xxxx xxxx x x x x xxxxxxxx" ∷
+     codes "xxxxxxxx x xx x xxxx xxxx x 1 1 0 xxxxxxxx" ∷
+     codes "xxxxxxxx x xx x xxxx xxxx x 0 x 0 xxxxxxxx" ∷ [])
+    (λ f. store_at_row (size_of f.s) f.t (record {
+      base = f.n;
+      offset = signed_offset f.U f.i;
+      indexing = indexing_of f.P f.W;
+    }))
 
 abbrev pub store_rows : List Row
 store_rows =

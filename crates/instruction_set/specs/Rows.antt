@@ -1,7 +1,7 @@
 -- What a row of the instruction set is, and what a number means by a list of rows (ARM DDI 0403, "The Thumb
 -- instruction set encoding").
 use Rattle.std.specs.Prelude.{ℕ, Bool, true, false, not, ◌&&◌, ◌||◌, ◌==◌, if◌then◌else◌, List, Option, Some, None}
-use Rattle.std.specs.Prelude.{find}
+use Rattle.std.specs.Prelude.{[], find, map}
 use Rattle.std.specs.List.{list_any}
 use Rattle.instruction_set.specs.declared.instruction.ItPosition.{ItPosition}
 use Rattle.instruction_set.specs.declared.instruction.ItPosition.TheVariants.{Anywhere, LastOnly}
@@ -12,7 +12,7 @@ use Rattle.instruction_set.specs.declared.instruction.InstructionLength.{Instruc
 use Rattle.instruction_set.specs.declared.instruction.InstructionLength.TheVariants.{Short, Long}
 use Rattle.instruction_set.specs.declared.unpredictable.UnpredictableCase.{UnpredictableCase}
 use Rattle.instruction_set.specs.declared.unpredictable.UnpredictableCase.TheVariants.{Encoding}
-use Rattle.instruction_set.specs.Patterns.{fits, is_as_printed, field}
+use Rattle.instruction_set.specs.Patterns.{unspaced, fits, is_as_printed, field}
 
 -- ---- a row
 
@@ -54,6 +54,15 @@ pub record Row : Type 0 where
   pub places : List ℕ
   pub except : List (List ℕ)
   pub gives : Letters → Decoded
+
+-- the row of a text and a decoding, with no exceptions. A row has the name of its encoding in the manual:
+-- `and_register_t1` is AND (register), encoding T1
+abbrev pub row : List ℕ → (Letters → Decoded) → Row
+row text gives = record { places = unspaced text; except = []; gives = gives }
+
+-- the row of a text and a decoding, but for the numbers that one of these texts fits
+abbrev pub row_but : List ℕ → List (List ℕ) → (Letters → Decoded) → Row
+row_but text exceptions gives = record { places = unspaced text; except = map unspaced exceptions; gives = gives }
 
 -- the fields by their letters' characters
 abbrev pub letters : (ℕ → ℕ) → Letters

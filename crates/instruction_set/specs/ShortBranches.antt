@@ -8,8 +8,7 @@ use Rattle.instruction_set.specs.declared.instruction.Decoded.TheVariants.{Undef
 use Rattle.instruction_set.specs.declared.instruction.Instruction.TheVariants.{Branch, System}
 use Rattle.instruction_set.specs.declared.instruction.InstructionLength.TheVariants.{Short}
 use Rattle.instruction_set.specs.declared.system.System.TheVariants.{SupervisorCall}
-use Rattle.instruction_set.specs.Patterns.{unspaced}
-use Rattle.instruction_set.specs.Rows.{Row, short, placed}
+use Rattle.instruction_set.specs.Rows.{Row, short, placed, row, row_but}
 use Rattle.instruction_set.specs.Words.{sign_extended}
 
 -- B with a condition: the offset counts halfwords, and is signed
@@ -25,37 +24,15 @@ branch_row halfwords = placed Short place.LastOnly
 
 -- ---- the rows
 
--- UDF, encoding T1
 abbrev pub udf_t1 : Row
-udf_t1 = record {
-  places = unspaced (codes "1101 1110 iiiiiiii");
-  except = [];
-  gives = λ f. Undefined;
-}
-
--- SVC, encoding T1
+udf_t1 = row (codes "1101 1110 iiiiiiii") (λ f. Undefined)
 abbrev pub svc_t1 : Row
-svc_t1 = record {
-  places = unspaced (codes "1101 1111 iiiiiiii");
-  except = [];
-  gives = λ f. short (System (SupervisorCall f.i));
-}
-
+svc_t1 = row (codes "1101 1111 iiiiiiii") (λ f. short (System (SupervisorCall f.i)))
 -- B, encoding T1; with the condition 1110 it is UDF, with 1111 SVC
 abbrev pub b_t1 : Row
-b_t1 = record {
-  places = unspaced (codes "1101 cccc iiiiiiii");
-  except = unspaced (codes "xxxx 111x xxxxxxxx") ∷ [];
-  gives = λ f. branch_if_row f.c f.i;
-}
-
--- B, encoding T2
+b_t1 = row_but (codes "1101 cccc iiiiiiii") (codes "xxxx 111x xxxxxxxx" ∷ []) (λ f. branch_if_row f.c f.i)
 abbrev pub b_t2 : Row
-b_t2 = record {
-  places = unspaced (codes "11100 iiiiiiiiiii");
-  except = [];
-  gives = λ f. branch_row f.i;
-}
+b_t2 = row (codes "11100 iiiiiiiiiii") (λ f. branch_row f.i)
 
 abbrev pub branch_rows : List Row
 branch_rows =

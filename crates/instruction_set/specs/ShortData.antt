@@ -13,9 +13,8 @@ use Rattle.instruction_set.specs.declared.data_processing.FlagSetting.TheVariant
 use Rattle.instruction_set.specs.declared.data_processing.MoveOperation.TheVariants.{MoveNot}
 use Rattle.instruction_set.specs.declared.shift.ShiftType.{ShiftType}
 use Rattle.instruction_set.specs.declared.shift.ShiftType.TheVariants.{Lsl, Lsr, Asr, Ror}
-use Rattle.instruction_set.specs.Patterns.{unspaced}
 use Rattle.instruction_set.specs.RowOperands.{unshifted}
-use Rattle.instruction_set.specs.Rows.{Row, short}
+use Rattle.instruction_set.specs.Rows.{Row, short, row}
 use Rattle.instruction_set.specs.ShortShifts.{data_registers_row, data_number_row}
 
 -- a shift by a register
@@ -51,138 +50,45 @@ multiply_row d m =
 
 -- ---- the rows: opcodes 0000 to 0111, then 1000 to 1111
 
--- AND (register), encoding T1
 abbrev pub and_register_t1 : Row
-and_register_t1 = record {
-  places = unspaced (codes "010000 0000 mmm ddd");
-  except = [];
-  gives = λ f. data_registers_row And f.d f.d f.m;
-}
-
--- EOR (register), encoding T1
+and_register_t1 = row (codes "010000 0000 mmm ddd") (λ f. data_registers_row And f.d f.d f.m)
 abbrev pub eor_register_t1 : Row
-eor_register_t1 = record {
-  places = unspaced (codes "010000 0001 mmm ddd");
-  except = [];
-  gives = λ f. data_registers_row ExclusiveOr f.d f.d f.m;
-}
-
--- LSL (register), encoding T1
+eor_register_t1 = row (codes "010000 0001 mmm ddd") (λ f. data_registers_row ExclusiveOr f.d f.d f.m)
 abbrev pub lsl_register_t1 : Row
-lsl_register_t1 = record {
-  places = unspaced (codes "010000 0010 mmm ddd");
-  except = [];
-  gives = λ f. shift_register_row Lsl f.d f.m;
-}
-
--- LSR (register), encoding T1
+lsl_register_t1 = row (codes "010000 0010 mmm ddd") (λ f. shift_register_row Lsl f.d f.m)
 abbrev pub lsr_register_t1 : Row
-lsr_register_t1 = record {
-  places = unspaced (codes "010000 0011 mmm ddd");
-  except = [];
-  gives = λ f. shift_register_row Lsr f.d f.m;
-}
-
--- ASR (register), encoding T1
+lsr_register_t1 = row (codes "010000 0011 mmm ddd") (λ f. shift_register_row Lsr f.d f.m)
 abbrev pub asr_register_t1 : Row
-asr_register_t1 = record {
-  places = unspaced (codes "010000 0100 mmm ddd");
-  except = [];
-  gives = λ f. shift_register_row Asr f.d f.m;
-}
-
--- ADC (register), encoding T1
+asr_register_t1 = row (codes "010000 0100 mmm ddd") (λ f. shift_register_row Asr f.d f.m)
 abbrev pub adc_register_t1 : Row
-adc_register_t1 = record {
-  places = unspaced (codes "010000 0101 mmm ddd");
-  except = [];
-  gives = λ f. data_registers_row AddWithCarry f.d f.d f.m;
-}
-
--- SBC (register), encoding T1
+adc_register_t1 = row (codes "010000 0101 mmm ddd") (λ f. data_registers_row AddWithCarry f.d f.d f.m)
 abbrev pub sbc_register_t1 : Row
-sbc_register_t1 = record {
-  places = unspaced (codes "010000 0110 mmm ddd");
-  except = [];
-  gives = λ f. data_registers_row SubtractWithCarry f.d f.d f.m;
-}
-
--- ROR (register), encoding T1
+sbc_register_t1 = row (codes "010000 0110 mmm ddd") (λ f. data_registers_row SubtractWithCarry f.d f.d f.m)
 abbrev pub ror_register_t1 : Row
-ror_register_t1 = record {
-  places = unspaced (codes "010000 0111 mmm ddd");
-  except = [];
-  gives = λ f. shift_register_row Ror f.d f.m;
-}
+ror_register_t1 = row (codes "010000 0111 mmm ddd") (λ f. shift_register_row Ror f.d f.m)
 
 abbrev pub data_low_rows : List Row
 data_low_rows =
     and_register_t1 ∷ eor_register_t1 ∷ lsl_register_t1 ∷ lsr_register_t1 ∷ asr_register_t1 ∷ adc_register_t1 ∷
     sbc_register_t1 ∷ ror_register_t1 ∷ []
 
--- TST (register), encoding T1
 abbrev pub tst_register_t1 : Row
-tst_register_t1 = record {
-  places = unspaced (codes "010000 1000 mmm ddd");
-  except = [];
-  gives = λ f. compare_registers_row Test f.d f.m;
-}
-
+tst_register_t1 = row (codes "010000 1000 mmm ddd") (λ f. compare_registers_row Test f.d f.m)
 -- RSB (immediate), encoding T1: 0 less the register
 abbrev pub rsb_immediate_t1 : Row
-rsb_immediate_t1 = record {
-  places = unspaced (codes "010000 1001 mmm ddd");
-  except = [];
-  gives = λ f. data_number_row ReverseSubtract f.d f.m 0;
-}
-
--- CMP (register), encoding T1
+rsb_immediate_t1 = row (codes "010000 1001 mmm ddd") (λ f. data_number_row ReverseSubtract f.d f.m 0)
 abbrev pub cmp_register_t1 : Row
-cmp_register_t1 = record {
-  places = unspaced (codes "010000 1010 mmm ddd");
-  except = [];
-  gives = λ f. compare_registers_row Compare f.d f.m;
-}
-
--- CMN (register), encoding T1
+cmp_register_t1 = row (codes "010000 1010 mmm ddd") (λ f. compare_registers_row Compare f.d f.m)
 abbrev pub cmn_register_t1 : Row
-cmn_register_t1 = record {
-  places = unspaced (codes "010000 1011 mmm ddd");
-  except = [];
-  gives = λ f. compare_registers_row CompareNegative f.d f.m;
-}
-
--- ORR (register), encoding T1
+cmn_register_t1 = row (codes "010000 1011 mmm ddd") (λ f. compare_registers_row CompareNegative f.d f.m)
 abbrev pub orr_register_t1 : Row
-orr_register_t1 = record {
-  places = unspaced (codes "010000 1100 mmm ddd");
-  except = [];
-  gives = λ f. data_registers_row Or f.d f.d f.m;
-}
-
--- MUL, encoding T1
+orr_register_t1 = row (codes "010000 1100 mmm ddd") (λ f. data_registers_row Or f.d f.d f.m)
 abbrev pub mul_t1 : Row
-mul_t1 = record {
-  places = unspaced (codes "010000 1101 mmm ddd");
-  except = [];
-  gives = λ f. multiply_row f.d f.m;
-}
-
--- BIC (register), encoding T1
+mul_t1 = row (codes "010000 1101 mmm ddd") (λ f. multiply_row f.d f.m)
 abbrev pub bic_register_t1 : Row
-bic_register_t1 = record {
-  places = unspaced (codes "010000 1110 mmm ddd");
-  except = [];
-  gives = λ f. data_registers_row BitClear f.d f.d f.m;
-}
-
--- MVN (register), encoding T1
+bic_register_t1 = row (codes "010000 1110 mmm ddd") (λ f. data_registers_row BitClear f.d f.d f.m)
 abbrev pub mvn_register_t1 : Row
-mvn_register_t1 = record {
-  places = unspaced (codes "010000 1111 mmm ddd");
-  except = [];
-  gives = λ f. move_not_row f.d f.m;
-}
+mvn_register_t1 = row (codes "010000 1111 mmm ddd") (λ f. move_not_row f.d f.m)
 
 abbrev pub data_high_rows : List Row
 data_high_rows =

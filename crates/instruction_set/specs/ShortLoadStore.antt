@@ -11,9 +11,8 @@ use Rattle.instruction_set.specs.declared.load_store.ListOrder.TheVariants.{Incr
 use Rattle.instruction_set.specs.declared.size.Size.{Size}
 use Rattle.instruction_set.specs.declared.size.Size.TheVariants.{Byte, Halfword, Word}
 use Rattle.instruction_set.specs.declared.unpredictable.UnpredictableCase.TheVariants.{FewRegisters, StoredBase}
-use Rattle.instruction_set.specs.Patterns.{unspaced}
 use Rattle.instruction_set.specs.RowOperands.{at_offset}
-use Rattle.instruction_set.specs.Rows.{Row, short, unless}
+use Rattle.instruction_set.specs.Rows.{Row, short, unless, row}
 use Rattle.instruction_set.specs.Words.{is_bit}
 
 -- LDR at the PC and an offset, which counts words
@@ -77,162 +76,52 @@ load_list_row n list =
 
 -- ---- the rows: at the PC or at the sum of two registers, at a register and an offset, of several registers
 
--- LDR (literal), encoding T1
 abbrev pub ldr_literal_t1 : Row
-ldr_literal_t1 = record {
-  places = unspaced (codes "01001 ttt iiiiiiii");
-  except = [];
-  gives = λ f. load_literal_word_row f.t f.i;
-}
-
--- STR (register), encoding T1
+ldr_literal_t1 = row (codes "01001 ttt iiiiiiii") (λ f. load_literal_word_row f.t f.i)
 abbrev pub str_register_t1 : Row
-str_register_t1 = record {
-  places = unspaced (codes "0101 000 mmm nnn ttt");
-  except = [];
-  gives = λ f. store_register_row Word f.t f.n f.m;
-}
-
--- STRH (register), encoding T1
+str_register_t1 = row (codes "0101 000 mmm nnn ttt") (λ f. store_register_row Word f.t f.n f.m)
 abbrev pub strh_register_t1 : Row
-strh_register_t1 = record {
-  places = unspaced (codes "0101 001 mmm nnn ttt");
-  except = [];
-  gives = λ f. store_register_row Halfword f.t f.n f.m;
-}
-
--- STRB (register), encoding T1
+strh_register_t1 = row (codes "0101 001 mmm nnn ttt") (λ f. store_register_row Halfword f.t f.n f.m)
 abbrev pub strb_register_t1 : Row
-strb_register_t1 = record {
-  places = unspaced (codes "0101 010 mmm nnn ttt");
-  except = [];
-  gives = λ f. store_register_row Byte f.t f.n f.m;
-}
-
--- LDRSB (register), encoding T1
+strb_register_t1 = row (codes "0101 010 mmm nnn ttt") (λ f. store_register_row Byte f.t f.n f.m)
 abbrev pub ldrsb_register_t1 : Row
-ldrsb_register_t1 = record {
-  places = unspaced (codes "0101 011 mmm nnn ttt");
-  except = [];
-  gives = λ f. load_register_row Byte true f.t f.n f.m;
-}
-
--- LDR (register), encoding T1
+ldrsb_register_t1 = row (codes "0101 011 mmm nnn ttt") (λ f. load_register_row Byte true f.t f.n f.m)
 abbrev pub ldr_register_t1 : Row
-ldr_register_t1 = record {
-  places = unspaced (codes "0101 100 mmm nnn ttt");
-  except = [];
-  gives = λ f. load_register_row Word false f.t f.n f.m;
-}
-
--- LDRH (register), encoding T1
+ldr_register_t1 = row (codes "0101 100 mmm nnn ttt") (λ f. load_register_row Word false f.t f.n f.m)
 abbrev pub ldrh_register_t1 : Row
-ldrh_register_t1 = record {
-  places = unspaced (codes "0101 101 mmm nnn ttt");
-  except = [];
-  gives = λ f. load_register_row Halfword false f.t f.n f.m;
-}
-
--- LDRB (register), encoding T1
+ldrh_register_t1 = row (codes "0101 101 mmm nnn ttt") (λ f. load_register_row Halfword false f.t f.n f.m)
 abbrev pub ldrb_register_t1 : Row
-ldrb_register_t1 = record {
-  places = unspaced (codes "0101 110 mmm nnn ttt");
-  except = [];
-  gives = λ f. load_register_row Byte false f.t f.n f.m;
-}
-
--- LDRSH (register), encoding T1
+ldrb_register_t1 = row (codes "0101 110 mmm nnn ttt") (λ f. load_register_row Byte false f.t f.n f.m)
 abbrev pub ldrsh_register_t1 : Row
-ldrsh_register_t1 = record {
-  places = unspaced (codes "0101 111 mmm nnn ttt");
-  except = [];
-  gives = λ f. load_register_row Halfword true f.t f.n f.m;
-}
+ldrsh_register_t1 = row (codes "0101 111 mmm nnn ttt") (λ f. load_register_row Halfword true f.t f.n f.m)
 
 abbrev pub literal_and_register_rows : List Row
 literal_and_register_rows =
     ldr_literal_t1 ∷ str_register_t1 ∷ strh_register_t1 ∷ strb_register_t1 ∷ ldrsb_register_t1 ∷ ldr_register_t1 ∷
     ldrh_register_t1 ∷ ldrb_register_t1 ∷ ldrsh_register_t1 ∷ []
 
--- STR (immediate), encoding T1
 abbrev pub str_immediate_t1 : Row
-str_immediate_t1 = record {
-  places = unspaced (codes "0110 0 iiiii nnn ttt");
-  except = [];
-  gives = λ f. store_number_row Word f.t f.n (f.i * 4);
-}
-
--- LDR (immediate), encoding T1
+str_immediate_t1 = row (codes "0110 0 iiiii nnn ttt") (λ f. store_number_row Word f.t f.n (f.i * 4))
 abbrev pub ldr_immediate_t1 : Row
-ldr_immediate_t1 = record {
-  places = unspaced (codes "0110 1 iiiii nnn ttt");
-  except = [];
-  gives = λ f. load_number_row Word f.t f.n (f.i * 4);
-}
-
--- STRB (immediate), encoding T1
+ldr_immediate_t1 = row (codes "0110 1 iiiii nnn ttt") (λ f. load_number_row Word f.t f.n (f.i * 4))
 abbrev pub strb_immediate_t1 : Row
-strb_immediate_t1 = record {
-  places = unspaced (codes "0111 0 iiiii nnn ttt");
-  except = [];
-  gives = λ f. store_number_row Byte f.t f.n f.i;
-}
-
--- LDRB (immediate), encoding T1
+strb_immediate_t1 = row (codes "0111 0 iiiii nnn ttt") (λ f. store_number_row Byte f.t f.n f.i)
 abbrev pub ldrb_immediate_t1 : Row
-ldrb_immediate_t1 = record {
-  places = unspaced (codes "0111 1 iiiii nnn ttt");
-  except = [];
-  gives = λ f. load_number_row Byte f.t f.n f.i;
-}
-
--- STRH (immediate), encoding T1
+ldrb_immediate_t1 = row (codes "0111 1 iiiii nnn ttt") (λ f. load_number_row Byte f.t f.n f.i)
 abbrev pub strh_immediate_t1 : Row
-strh_immediate_t1 = record {
-  places = unspaced (codes "1000 0 iiiii nnn ttt");
-  except = [];
-  gives = λ f. store_number_row Halfword f.t f.n (f.i * 2);
-}
-
--- LDRH (immediate), encoding T1
+strh_immediate_t1 = row (codes "1000 0 iiiii nnn ttt") (λ f. store_number_row Halfword f.t f.n (f.i * 2))
 abbrev pub ldrh_immediate_t1 : Row
-ldrh_immediate_t1 = record {
-  places = unspaced (codes "1000 1 iiiii nnn ttt");
-  except = [];
-  gives = λ f. load_number_row Halfword f.t f.n (f.i * 2);
-}
-
+ldrh_immediate_t1 = row (codes "1000 1 iiiii nnn ttt") (λ f. load_number_row Halfword f.t f.n (f.i * 2))
 -- STR (immediate), encoding T2: at SP
 abbrev pub str_immediate_t2 : Row
-str_immediate_t2 = record {
-  places = unspaced (codes "1001 0 ttt iiiiiiii");
-  except = [];
-  gives = λ f. store_number_row Word f.t 13 (f.i * 4);
-}
-
+str_immediate_t2 = row (codes "1001 0 ttt iiiiiiii") (λ f. store_number_row Word f.t 13 (f.i * 4))
 -- LDR (immediate), encoding T2: at SP
 abbrev pub ldr_immediate_t2 : Row
-ldr_immediate_t2 = record {
-  places = unspaced (codes "1001 1 ttt iiiiiiii");
-  except = [];
-  gives = λ f. load_number_row Word f.t 13 (f.i * 4);
-}
-
--- STM, encoding T1
+ldr_immediate_t2 = row (codes "1001 1 ttt iiiiiiii") (λ f. load_number_row Word f.t 13 (f.i * 4))
 abbrev pub stm_t1 : Row
-stm_t1 = record {
-  places = unspaced (codes "11000 nnn llllllll");
-  except = [];
-  gives = λ f. store_list_row f.n f.l;
-}
-
--- LDM, encoding T1
+stm_t1 = row (codes "11000 nnn llllllll") (λ f. store_list_row f.n f.l)
 abbrev pub ldm_t1 : Row
-ldm_t1 = record {
-  places = unspaced (codes "11001 nnn llllllll");
-  except = [];
-  gives = λ f. load_list_row f.n f.l;
-}
+ldm_t1 = row (codes "11001 nnn llllllll") (λ f. load_list_row f.n f.l)
 
 abbrev pub immediate_and_list_rows : List Row
 immediate_and_list_rows =

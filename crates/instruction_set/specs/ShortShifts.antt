@@ -14,9 +14,8 @@ use Rattle.instruction_set.specs.declared.data_processing.DataOperation.TheVaria
 use Rattle.instruction_set.specs.declared.data_processing.FlagSetting.TheVariants as flags
 use Rattle.instruction_set.specs.declared.data_processing.MoveOperation.TheVariants.{Move}
 use Rattle.instruction_set.specs.Arithmetic.{decode_imm_shift}
-use Rattle.instruction_set.specs.Patterns.{unspaced}
 use Rattle.instruction_set.specs.RowOperands.{unshifted, plain_immediate}
-use Rattle.instruction_set.specs.Rows.{Row, short, placed}
+use Rattle.instruction_set.specs.Rows.{Row, short, placed, row, row_but}
 
 -- MOV of a low register, which sets N and Z always
 unfoldable pub move_low_row : ℕ → ℕ → Decoded
@@ -80,99 +79,33 @@ compare_number_row n value =
 
 -- MOV (register), encoding T2: LSL (immediate) by 0, which sets flags and may not be in an IT block
 abbrev pub mov_register_t2 : Row
-mov_register_t2 = record {
-  places = unspaced (codes "000 00 00000 mmm ddd");
-  except = [];
-  gives = λ f. move_low_row f.d f.m;
-}
-
+mov_register_t2 = row (codes "000 00 00000 mmm ddd") (λ f. move_low_row f.d f.m)
 -- LSL (immediate), encoding T1; by 00000 it is MOV
 abbrev pub lsl_immediate_t1 : Row
-lsl_immediate_t1 = record {
-  places = unspaced (codes "000 00 iiiii mmm ddd");
-  except = unspaced (codes "xxx xx 00000 xxx xxx") ∷ [];
-  gives = λ f. shift_number_row 0 f.i f.d f.m;
-}
-
--- LSR (immediate), encoding T1
+lsl_immediate_t1 =
+    row_but (codes "000 00 iiiii mmm ddd")
+    (codes "xxx xx 00000 xxx xxx" ∷ [])
+    (λ f. shift_number_row 0 f.i f.d f.m)
 abbrev pub lsr_immediate_t1 : Row
-lsr_immediate_t1 = record {
-  places = unspaced (codes "000 01 iiiii mmm ddd");
-  except = [];
-  gives = λ f. shift_number_row 1 f.i f.d f.m;
-}
-
--- ASR (immediate), encoding T1
+lsr_immediate_t1 = row (codes "000 01 iiiii mmm ddd") (λ f. shift_number_row 1 f.i f.d f.m)
 abbrev pub asr_immediate_t1 : Row
-asr_immediate_t1 = record {
-  places = unspaced (codes "000 10 iiiii mmm ddd");
-  except = [];
-  gives = λ f. shift_number_row 2 f.i f.d f.m;
-}
-
--- ADD (register), encoding T1
+asr_immediate_t1 = row (codes "000 10 iiiii mmm ddd") (λ f. shift_number_row 2 f.i f.d f.m)
 abbrev pub add_register_t1 : Row
-add_register_t1 = record {
-  places = unspaced (codes "000 11 0 0 mmm nnn ddd");
-  except = [];
-  gives = λ f. data_registers_row Add f.d f.n f.m;
-}
-
--- SUB (register), encoding T1
+add_register_t1 = row (codes "000 11 0 0 mmm nnn ddd") (λ f. data_registers_row Add f.d f.n f.m)
 abbrev pub sub_register_t1 : Row
-sub_register_t1 = record {
-  places = unspaced (codes "000 11 0 1 mmm nnn ddd");
-  except = [];
-  gives = λ f. data_registers_row Subtract f.d f.n f.m;
-}
-
--- ADD (immediate), encoding T1
+sub_register_t1 = row (codes "000 11 0 1 mmm nnn ddd") (λ f. data_registers_row Subtract f.d f.n f.m)
 abbrev pub add_immediate_t1 : Row
-add_immediate_t1 = record {
-  places = unspaced (codes "000 11 1 0 iii nnn ddd");
-  except = [];
-  gives = λ f. data_number_row Add f.d f.n f.i;
-}
-
--- SUB (immediate), encoding T1
+add_immediate_t1 = row (codes "000 11 1 0 iii nnn ddd") (λ f. data_number_row Add f.d f.n f.i)
 abbrev pub sub_immediate_t1 : Row
-sub_immediate_t1 = record {
-  places = unspaced (codes "000 11 1 1 iii nnn ddd");
-  except = [];
-  gives = λ f. data_number_row Subtract f.d f.n f.i;
-}
-
--- MOV (immediate), encoding T1
+sub_immediate_t1 = row (codes "000 11 1 1 iii nnn ddd") (λ f. data_number_row Subtract f.d f.n f.i)
 abbrev pub mov_immediate_t1 : Row
-mov_immediate_t1 = record {
-  places = unspaced (codes "001 00 ddd iiiiiiii");
-  except = [];
-  gives = λ f. move_number_row f.d f.i;
-}
-
--- CMP (immediate), encoding T1
+mov_immediate_t1 = row (codes "001 00 ddd iiiiiiii") (λ f. move_number_row f.d f.i)
 abbrev pub cmp_immediate_t1 : Row
-cmp_immediate_t1 = record {
-  places = unspaced (codes "001 01 nnn iiiiiiii");
-  except = [];
-  gives = λ f. compare_number_row f.n f.i;
-}
-
--- ADD (immediate), encoding T2
+cmp_immediate_t1 = row (codes "001 01 nnn iiiiiiii") (λ f. compare_number_row f.n f.i)
 abbrev pub add_immediate_t2 : Row
-add_immediate_t2 = record {
-  places = unspaced (codes "001 10 ddd iiiiiiii");
-  except = [];
-  gives = λ f. data_number_row Add f.d f.d f.i;
-}
-
--- SUB (immediate), encoding T2
+add_immediate_t2 = row (codes "001 10 ddd iiiiiiii") (λ f. data_number_row Add f.d f.d f.i)
 abbrev pub sub_immediate_t2 : Row
-sub_immediate_t2 = record {
-  places = unspaced (codes "001 11 ddd iiiiiiii");
-  except = [];
-  gives = λ f. data_number_row Subtract f.d f.d f.i;
-}
+sub_immediate_t2 = row (codes "001 11 ddd iiiiiiii") (λ f. data_number_row Subtract f.d f.d f.i)
 
 abbrev pub shifts_and_moves : List Row
 shifts_and_moves =

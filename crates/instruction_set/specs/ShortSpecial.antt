@@ -13,9 +13,8 @@ use Rattle.instruction_set.specs.declared.data_processing.DataOperation.TheVaria
 use Rattle.instruction_set.specs.declared.data_processing.FlagSetting.TheVariants as flags
 use Rattle.instruction_set.specs.declared.data_processing.MoveOperation.TheVariants.{Move}
 use Rattle.instruction_set.specs.declared.unpredictable.UnpredictableCase.TheVariants.{Registers}
-use Rattle.instruction_set.specs.Patterns.{unspaced}
 use Rattle.instruction_set.specs.RowOperands.{unshifted}
-use Rattle.instruction_set.specs.Rows.{Row, short, placed, last_only_if, unless}
+use Rattle.instruction_set.specs.Rows.{Row, short, placed, last_only_if, unless, row}
 
 -- ADD of any registers, without flags
 unfoldable pub add_high_row : ℕ → ℕ → Decoded
@@ -59,45 +58,16 @@ branch_link_exchange_row m =
 
 -- ---- the rows
 
--- ADD (register), encoding T2
 abbrev pub add_register_t2 : Row
-add_register_t2 = record {
-  places = unspaced (codes "010001 00 d mmmm ddd");
-  except = [];
-  gives = λ f. add_high_row f.d f.m;
-}
-
--- CMP (register), encoding T2
+add_register_t2 = row (codes "010001 00 d mmmm ddd") (λ f. add_high_row f.d f.m)
 abbrev pub cmp_register_t2 : Row
-cmp_register_t2 = record {
-  places = unspaced (codes "010001 01 n mmmm nnn");
-  except = [];
-  gives = λ f. compare_high_row f.n f.m;
-}
-
--- MOV (register), encoding T1
+cmp_register_t2 = row (codes "010001 01 n mmmm nnn") (λ f. compare_high_row f.n f.m)
 abbrev pub mov_register_t1 : Row
-mov_register_t1 = record {
-  places = unspaced (codes "010001 10 d mmmm ddd");
-  except = [];
-  gives = λ f. move_high_row f.d f.m;
-}
-
--- BX, encoding T1
+mov_register_t1 = row (codes "010001 10 d mmmm ddd") (λ f. move_high_row f.d f.m)
 abbrev pub bx_t1 : Row
-bx_t1 = record {
-  places = unspaced (codes "010001 11 0 mmmm zzz");
-  except = [];
-  gives = λ f. branch_exchange_row f.m;
-}
-
--- BLX (register), encoding T1
+bx_t1 = row (codes "010001 11 0 mmmm zzz") (λ f. branch_exchange_row f.m)
 abbrev pub blx_register_t1 : Row
-blx_register_t1 = record {
-  places = unspaced (codes "010001 11 1 mmmm zzz");
-  except = [];
-  gives = λ f. branch_link_exchange_row f.m;
-}
+blx_register_t1 = row (codes "010001 11 1 mmmm zzz") (λ f. branch_link_exchange_row f.m)
 
 abbrev pub special_rows : List Row
 special_rows =
