@@ -1,4 +1,4 @@
-pub use Rattle.kept_code.specs.Instructions
+pub use Rattle.micro.specs.Instructions
 pub mod Found
 pub mod KeptAccesses
 pub mod Peek

@@ -11,7 +11,7 @@ pub use bus::{Bus, fetch_at};
 pub use clock::{EagerSysTick, LazySysTick, Script, ScriptedEvent, SysTick, SysTickState};
 pub use code_memory::CodeMemory;
 pub use instruction_set::size::Size;
-pub use kept_code::KeptCode;
+pub use micro::KeptCode;
 pub use mpu::{Decider, GrantedSpan, Search};
 pub use nvic::{Exceptions, PlainExceptions};
 pub use physical_memory::{Layout, PhysicalMemory};

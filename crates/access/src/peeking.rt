@@ -6,7 +6,7 @@ ghost use Rattle.access.specs.Peek.{word_of_window, word_outside, peek_word};
 use crate::bus::Bus;
 use clock::SysTickState;
 use instruction_set::size::Size;
-use kept_code::KeptCode;
+use micro::KeptCode;
 use mpu::Decider;
 use nvic::Exceptions;
 use platform::map::{is_in_ppb, is_in_window};

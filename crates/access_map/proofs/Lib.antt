@@ -7,3 +7,6 @@ pub mod Texts
 pub mod Unique
 pub mod SameSettings
 pub mod Counted
+mod Visible
+mod Joining
+mod Pairs

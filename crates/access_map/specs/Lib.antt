@@ -5,3 +5,5 @@ pub mod Stretches
 pub mod Lines
 pub mod Settings
 pub mod Counting
+pub mod Names
+pub mod WorldText

@@ -2,21 +2,27 @@
 //! and by which bytes one such world can influence another.
 #![tactic(auto)]
 
+mod apart;
 mod counting;
 mod interval;
 pub mod laws;
+mod later;
 mod lines;
 mod map;
+mod names;
 mod settings;
 mod sharing;
+mod text;
 mod world;
 mod world_lines;
 
+pub use apart::are_all_apart;
 pub use counting::{MAX_WORLDS, WorldSteps, Worlds};
 pub use interval::Interval;
 pub use lines::{Line, map_text, pair_text};
 pub use map::{AccessMap, PlaceMap};
 pub use mpu::Span;
 pub use sharing::{are_apart, shared};
+pub use text::worlds_text;
 pub use world::{Place, Rights, World, places};
 pub use world_lines::{others_line, world_line};

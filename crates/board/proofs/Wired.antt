@@ -12,8 +12,8 @@ use Rattle.devices.specs.declared.device.Line.{Line}
 use Rattle.devices.specs.declared.device.Poke.{Poke as ThePoke}
 use Rattle.devices.specs.Lines.{is_line_of}
 use Rattle.devices.specs.Table.{device_at, has}
-use Rattle.wiring.specs.Wiring.{AreWired, DriveApart, HasSteadyLine, HaveSteadyLines, IsUndriven, followed_by}
-use Rattle.wiring.specs.Wiring.{LeavesDriven, has_steady_value, is_driven, is_on_driven, is_steady}
+use Rattle.platform.specs.Wiring.{AreWired, DriveApart, HasSteadyLine, HaveSteadyLines, IsUndriven, followed_by}
+use Rattle.platform.specs.Wiring.{LeavesDriven, has_steady_value, is_driven, is_on_driven, is_steady}
 use Rattle.platform.specs.declared.error.BoardError.{BoardError}
 use Rattle.platform.specs.declared.error.BoardError.TheVariants.{OutOfRange}
 use Rattle.platform.specs.declared.script.ScriptedEvent.{ScriptedEvent}

@@ -11,7 +11,7 @@ use Rattle.devices.specs.declared.device.Poke.{Poke}
 use Rattle.devices.specs.declared.device.Stores.{Stores}
 use Rattle.devices.specs.declared.device.Stores.TheVariants.{Kept, Ignored, OnesClear, ZerosClear}
 use Rattle.devices.specs.Table.{device_at}
-use Rattle.wiring.specs.Wiring.{is_driven}
+use Rattle.platform.specs.Wiring.{is_driven}
 use Rattle.platform.specs.declared.error.BoardError.{BoardError}
 use Rattle.platform.specs.declared.error.BoardError.TheVariants.{OutOfRange, UnknownKey}
 use Rattle.platform.specs.Boards.{Numbers, RamSpan}

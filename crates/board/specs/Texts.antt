@@ -15,7 +15,7 @@ use Rattle.platform.specs.Boards.{is_interrupt_count, is_second_ram}
 use Rattle.platform.specs.Boards.{is_region_count, default_regions, is_tick, first_tick, max_events}
 use Rattle.board.specs.Values.{◌>>=◌, number, number_or, of_kind, only, tables_at, where_ok, word}
 use Rattle.board.specs.Devices.{devices_at, has_32_bits, is_device_word}
-use Rattle.wiring.specs.Wiring.{is_driven}
+use Rattle.platform.specs.Wiring.{is_driven}
 
 abbrev pub board_keys : List (List ℕ)
 board_keys =

@@ -6,7 +6,7 @@ ghost use Rattle.toml.specs.View.{table_view};
 ghost use Rattle.devices.specs.Lines.{is_line_of};
 ghost use Rattle.devices.specs.Table.{device_at};
 ghost use Rattle.platform.specs.Boards.{numbers_of};
-ghost use Rattle.wiring.specs.Wiring.{is_driven};
+ghost use Rattle.platform.specs.Wiring.{is_driven};
 ghost use Rattle.board.specs.Devices.{counts_in, is_device_word, is_followed, is_in_device, is_named};
 ghost use Rattle.board.specs.Devices.{is_own, span_in};
 ghost use Rattle.board.specs.Reading.{Gives, span_read};

@@ -8,7 +8,7 @@ ghost use Rattle.toml.specs.View.{table_view};
 ghost use Rattle.platform.specs.Boards.{IsScript};
 ghost use Rattle.platform.specs.SystemInvariant.{IsBoard};
 ghost use Rattle.platform.specs.declared.error.BoardError.TheVariants.{OutOfMemory as Wanting};
-ghost use Rattle.wiring.specs.Wiring.{AreWired};
+ghost use Rattle.platform.specs.Wiring.{AreWired};
 ghost use Rattle.board.specs.Texts.{board_in, board_of};
 ghost use Rattle.board.specs.Reading.{Answers, described};
 

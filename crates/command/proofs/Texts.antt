@@ -12,8 +12,8 @@ use Rattle.reference.specs.Run.{ending_of}
 use Rattle.reference.specs.State.{State}
 use Rattle.symbols.specs.Tables.{places_of, strings_in, symbols_in}
 use Rattle.symbols.specs.declared.symbol.Symbol.{Symbol}
-use Rattle.world_run.specs.WorldRuns.{worlds_after}
-use Rattle.world_text.specs.Names.{shown_name}
+use Rattle.survey_run.specs.WorldRuns.{worlds_after}
+use Rattle.access_map.specs.Names.{shown_name}
 
 pub tasks_run : (board : Numbers) (file : List ℕ) (steps : ℕ) (items : List Span) (s : State) (strings : List ℕ)
     (symbols : List Symbol) (allowed : List Span) (v : Worlds) (why : Stop) (old new : Writing)

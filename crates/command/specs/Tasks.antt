@@ -20,9 +20,9 @@ use Rattle.platform.specs.Images.{image_of}
 use Rattle.reference.specs.Run.{ending_of}
 use Rattle.reference.specs.State.{State}
 use Rattle.symbols.specs.Tables.{places_of, strings_in, symbols_in}
-use Rattle.world_run.specs.WorldRuns.{worlds_after}
-use Rattle.world_text.specs.Names.{shown_name}
-use Rattle.world_text.specs.WorldText.{AreAllApart, IsWorldsText}
+use Rattle.survey_run.specs.WorldRuns.{worlds_after}
+use Rattle.access_map.specs.Names.{shown_name}
+use Rattle.access_map.specs.WorldText.{AreAllApart, IsWorldsText}
 
 -- ---- a text about worlds is sent; `name` is the name of an address
 

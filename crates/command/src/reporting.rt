@@ -20,7 +20,7 @@ use std::io::Write;
 use survey::Survey;
 use survey_run::survey_run;
 use symbols::Symbols;
-use world_run::WorldCount;
+use survey_run::WorldCount;
 
 /// The most bytes of a page: 2 MiB.
 const PAGE_BYTES: usize = 0x20_0000;

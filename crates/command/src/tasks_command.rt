@@ -4,7 +4,7 @@ ghost use Rattle.std.specs.Prelude.{◌≡◌};
 ghost use Rattle.command.specs.Opening.{board_in_file};
 ghost use Rattle.command.specs.Tasks.{TasksTo, WritesTasks, RunsTasks, result_status};
 ghost use Rattle.platform.specs.Boards.{numbers_of};
-ghost use Rattle.world_text.specs.Names.{shown_name};
+ghost use Rattle.access_map.specs.Names.{shown_name};
 
 use crate::error::{Error, stop_status};
 use crate::files::InputFile;
@@ -17,8 +17,8 @@ use machine::{Layout, Out, StartError, Stop};
 use std::alloc::Global;
 use std::io::Write;
 use symbols::Symbols;
-use world_run::{WorldCount, world_run};
-use world_text::{are_all_apart, worlds_text};
+use survey_run::{WorldCount, world_run};
+use access_map::{are_all_apart, worlds_text};
 
 /// What `marm tasks` reports of a run, besides its text.
 #[derive(Clone, Copy)]

@@ -5,6 +5,7 @@
 ghost use Rattle.std.specs.Prelude.{◌≡◌, ◌≤◌, length, IfOk};
 ghost use Rattle.platform.specs.Images.{AreSegmentsApart, has_magic, image_of, is_32_bit_little, table_of};
 
+pub mod constants;
 mod image;
 mod number;
 mod overlap;

@@ -2,7 +2,7 @@
 use Rattle.std.specs.Prelude.{◌≡◌, ℕ, ◌+◌, ◌≤◌, Bool, if◌then◌else◌, List, length}
 use Rattle.std.specs.Prelude.{Option, Some, None, IfSome, Result, Ok, Err}
 use Rattle.access.specs.KeptAccesses.{HasHalfword}
-use Rattle.bounded.specs.Bounded.{Bounded}
+use Rattle.platform.specs.Bounded.{Bounded}
 use Rattle.instruction_set.specs.Registers.{is_privileged}
 use Rattle.platform.specs.declared.event.Event.{Event}
 use Rattle.reference.specs.declared.failure.Failure.{Failure}

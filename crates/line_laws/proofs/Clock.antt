@@ -9,7 +9,7 @@ use Rattle.devices.specs.Devices.{DeviceWords, Word, content_at, content_in, val
 use Rattle.devices.specs.Lines.{level_of, level_on, levels, levels_by}
 use Rattle.devices.specs.Table.{device_at, has, place}
 use Rattle.platform.specs.SystemInvariant.{table_of}
-use Rattle.wiring.specs.Wiring.{HasSteadyLine, HaveSteadyLines, followed_by, has_steady_value, is_steady}
+use Rattle.platform.specs.Wiring.{HasSteadyLine, HaveSteadyLines, followed_by, has_steady_value, is_steady}
 
 -- ---- a word and its device
 

@@ -14,7 +14,7 @@ use Rattle.platform.specs.declared.script.Signal.{Signal}
 use Rattle.platform.specs.declared.script.Signal.TheVariants.{Rise, Fall, Pulse, Nmi, Poke}
 use Rattle.platform.specs.SystemInvariant.{table_of}
 use Rattle.platform.specs.Time.{Time, is_high, with_events, with_signal}
-use Rattle.wiring.specs.Wiring.{LeavesDriven, is_driven, is_on_driven}
+use Rattle.platform.specs.Wiring.{LeavesDriven, is_driven, is_on_driven}
 
 -- ---- signals on other interrupts
 

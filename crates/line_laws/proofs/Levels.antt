@@ -14,7 +14,7 @@ use Rattle.platform.specs.declared.script.Signal.TheVariants.{Rise, Fall, Pulse,
 use Rattle.platform.specs.System.{System, with_level, with_levels}
 use Rattle.platform.specs.SystemInvariant.{table_of}
 use Rattle.platform.specs.Time.{is_high, with_signal}
-use Rattle.wiring.specs.Wiring.{DriveApart, IsUndriven, is_driven}
+use Rattle.platform.specs.Wiring.{DriveApart, IsUndriven, is_driven}
 
 -- ---- one level
 

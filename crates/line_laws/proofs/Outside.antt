@@ -35,7 +35,7 @@ use Rattle.reference.specs.Places.{register_taken, signalled, special_taken, sto
 use Rattle.reference.specs.Start.{start}
 use Rattle.reference.specs.State.{Bus, State}
 use Rattle.state_laws.specs.StateLaw.{IfGiven}
-use Rattle.wiring.specs.Wiring.{AreWired, is_driven, is_on_driven}
+use Rattle.platform.specs.Wiring.{AreWired, is_driven, is_on_driven}
 
 -- ---- a signal
 

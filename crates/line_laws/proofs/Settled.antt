@@ -23,7 +23,7 @@ use Rattle.platform.specs.Time.{Time}
 use Rattle.reference.specs.Accesses.{carried_out, decision, is_to_device, perform}
 use Rattle.reference.specs.State.{Bus}
 use Rattle.step_laws.proofs.Settling.{settled_part}
-use Rattle.wiring.specs.Wiring.{AreWired, DriveApart}
+use Rattle.platform.specs.Wiring.{AreWired, DriveApart}
 
 -- what holds inside a step: the devices go together with the rest of the script, and their lines have settled
 pub record Holds (s : System) : Type 0 where

@@ -6,7 +6,7 @@ use Rattle.platform.specs.System.{System}
 use Rattle.platform.specs.SystemInvariant.{table_of}
 use Rattle.platform.specs.Time.{Time, is_high}
 use Rattle.reference.specs.State.{State}
-use Rattle.wiring.specs.Wiring.{AreWired}
+use Rattle.platform.specs.Wiring.{AreWired}
 
 -- the interrupts of these levels are at them
 abbrev pub AreAt : Time → List Level → Type 0

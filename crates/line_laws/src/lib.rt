@@ -14,7 +14,7 @@ ghost use Rattle.reference.specs.Start.{start};
 ghost use Rattle.reference.specs.State.{State};
 ghost use Rattle.reference.specs.Step.{step};
 ghost use Rattle.state_laws.specs.StateLaw.{IfGiven};
-ghost use Rattle.wiring.specs.Wiring.{AreWired};
+ghost use Rattle.platform.specs.Wiring.{AreWired};
 
 /// Where the devices of a board and its script go together, the lines of devices have settled in the state in which a
 /// machine starts.

@@ -23,7 +23,7 @@ pub use access::{
 };
 pub use board::{Board, InterruptNumber, ScriptedEvent, Signal};
 pub use decode::DecodeEachTime;
-pub use decode_table::BoardDecodeTable;
+pub use decode::BoardDecodeTable;
 pub use machine::{Fast, Machine, RunError, Slow};
 pub use mpu_table::{KeptDecisions, Table};
 pub use next_step::is_instruction;

@@ -37,7 +37,7 @@ use access::{
 };
 use board::Board;
 use decode::DecodeEachTime;
-use decode_table::BoardDecodeTable;
+use decode::BoardDecodeTable;
 use elf::Image;
 use mpu::MpuRegs;
 use mpu_table::{KeptDecisions, Table};

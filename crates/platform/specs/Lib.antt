@@ -21,3 +21,5 @@ pub mod Events
 pub mod Images
 pub mod Boards
 pub mod SystemInvariant
+pub mod Wiring
+pub mod Bounded

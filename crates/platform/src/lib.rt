@@ -5,6 +5,7 @@
 
 pub mod access;
 pub mod board;
+pub mod bounded;
 pub mod error;
 pub mod event;
 pub mod exception;

@@ -1,6 +1,6 @@
 //! Lists of accesses, and of what they read.
 
-use bounded::Bounded;
+use platform::bounded::Bounded;
 use platform::access::{MAX_REQUESTS, Request};
 
 /// The accesses of an instruction, or of a frame, in their order.

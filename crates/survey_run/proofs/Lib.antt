@@ -1,2 +1,5 @@
 mod Counted
 mod OneMore
+pub mod WorldsCounted
+pub mod Stepping
+mod Written

@@ -6,15 +6,19 @@ ghost use Rattle.reference.specs.Run.{after, ending_of};
 ghost use Rattle.reference.specs.Step.{step};
 ghost use Rattle.survey.specs.RegionLaw.{some_writes_system};
 ghost use Rattle.survey.specs.Surveys.{step_start_of, surveyed, with_events, with_made_step};
-ghost use Rattle.world_run.specs.WorldRuns.{with_step, worlds_after};
+ghost use Rattle.survey_run.specs.WorldRuns.{with_step, worlds_after};
 
 mod counting;
+mod world_count;
+mod worlds;
+mod writes;
 
 use counting::{Begun, CountedEvents};
 use machine::{Decider, Exceptions, KeptCode, Machine, Stop, SysTickState};
 use std::marker::Brand;
 use survey::{StepStart, Survey};
-use world_run::WorldCount;
+pub use world_count::WorldCount;
+pub use worlds::world_run;
 
 /// Makes at most `limit` steps, up to the first stop, and counts each of them, in the survey and, if it runs in a
 /// world, in the worlds. Writes nothing. Returns the stop, `StepLimit` where the machine hasn't stopped.
@@ -44,7 +48,7 @@ pub fn survey_run<D: Decider, C: KeptCode, L: Exceptions, U: SysTickState>(
 
 /// Makes a step that begins at a moment, and counts it. The moment becomes that of the next step.
 #[inline(always)]
-#[tactic(auto, using(crate::proofs::OneMore::still_known, world_run::proofs::Stepping::still_known))]
+#[tactic(auto, using(crate::proofs::OneMore::still_known, crate::proofs::Stepping::still_known))]
 fn survey_step<D: Decider, C: KeptCode, L: Exceptions, U: SysTickState>(
     machine: &mut Machine<D, C, L, U>,
     start: &mut StepStart,

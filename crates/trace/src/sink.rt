@@ -7,7 +7,7 @@ ghost use Rattle.reference.specs.LoadStore.{fetch_at};
 ghost use Rattle.trace.specs.Emission.{Emission, with_emitted};
 
 use crate::line_end::FetchEnd;
-use bounded::Bounded;
+use platform::bounded::Bounded;
 use instruction_set::size::Size;
 use platform::access::{Access, DecidedAccess, Kind};
 use platform::event::{Event, EventKind, MAX_EVENTS};

@@ -19,7 +19,7 @@ use Rattle.access_map.specs.declared.world.Place.{Place}
 use Rattle.reference.specs.State.{State}
 use Rattle.task_laws.specs.Sight.{is_seen}
 use Rattle.world_laws.specs.WorldLaw.{AgreeButRams, HasRamsOf, UnseenLaw, may_write}
-use Rattle.world_run.specs.WorldRuns.{world_of}
+use Rattle.survey_run.specs.WorldRuns.{world_of}
 
 -- a world reads or executes the byte of RAM at an address
 abbrev may_see : World → ℕ → Bool

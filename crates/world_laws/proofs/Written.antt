@@ -12,7 +12,7 @@ use Rattle.reference.specs.State.{State}
 use Rattle.physical_memory.proofs.Blocks.{agree_self}
 use Rattle.task_laws.specs.Sight.{KeepsDenied, Same, denies_store, is_seen}
 use Rattle.world_laws.specs.WorldLaw.{AgreeButRams, AgreeButWritten, HaveSameRams, may_write, with_rams, with_rams_of}
-use Rattle.world_run.specs.WorldRuns.{world_of}
+use Rattle.survey_run.specs.WorldRuns.{world_of}
 
 -- a state looks the same as itself
 pub looks_itself : (s : State) → Same s s

@@ -15,7 +15,7 @@ use Rattle.task_laws.specs.declared.task.TaskEnd.{TaskEnd}
 use Rattle.task_laws.specs.Sight.{Same, with_memory}
 use Rattle.task_laws.specs.TaskLaw.{EndedAlike, EndsAfter, RunAlike}
 use Rattle.task_laws.specs.Tasks.{AreInstructions, is_task, runs_unprivileged}
-use Rattle.world_run.specs.WorldRuns.{world_of}
+use Rattle.survey_run.specs.WorldRuns.{world_of}
 
 -- a state is in a world: the MPU has its setting
 abbrev pub IsInWorld : World → State → Type 0

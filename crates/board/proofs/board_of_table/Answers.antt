@@ -2,7 +2,7 @@ use Rattle.std.proofs.Common.{◌∙◌, List, subst, sym}
 use Rattle.devices.specs.declared.device.Device.{Device}
 use Rattle.platform.specs.Boards.{numbers_of}
 use Rattle.platform.specs.SystemInvariant.{HaveLinesOfBoard}
-use Rattle.wiring.specs.Wiring.{AreWired}
+use Rattle.platform.specs.Wiring.{AreWired}
 use Rattle.board.proofs.Lines.{lines_at}
 use Rattle.board.proofs.Ordered.{script_is}
 use Rattle.board.proofs.Taken.{is_board}

@@ -2,8 +2,8 @@ use Rattle.std.proofs.Common.{◌≡◌, ◌⊎◌, inl, inr, ◌∙◌, sym, ap
 use Rattle.machine.proofs.Running.{ends_so, not_some}
 use Rattle.machine.specs.MachineModel.{MachineModel}
 use Rattle.survey_run.proofs.Counted.{all_surveyed, machine_on, none_made, none_surveyed, surveyed_on, whole_made}
-use Rattle.world_run.specs.CountModel.{CountModel}
-use Rattle.world_run.proofs.Counted.{all_counted, counted_on, none_counted}
+use Rattle.survey_run.specs.CountModel.{CountModel}
+use Rattle.survey_run.proofs.WorldsCounted.{all_counted, counted_on, none_counted}
 use Rattle.survey_run.proofs.survey_run.Goals as goal
 use Rattle.survey_run.proofs.survey_run.Goals.{else-steps-test, then-steps-test+then-is_some}
 

@@ -1,7 +1,7 @@
 use Rattle.std.proofs.Common.{◌≡◌, ◌-◌, ◌≤◌}
 use Rattle.reference.specs.Run.{after}
 use Rattle.survey.specs.Surveys.{step_start_of, surveyed}
-use Rattle.world_run.specs.WorldRuns.{worlds_after}
+use Rattle.survey_run.specs.WorldRuns.{worlds_after}
 use Rattle.survey_run.proofs.survey_run.Given as goal
 
 abbrev pub invariant-steps : goal.invariant-steps

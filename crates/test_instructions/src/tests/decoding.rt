@@ -4,7 +4,7 @@ ghost use Rattle.std.specs.Prelude.{◌<◌};
 
 use assembled::{COPROCESSORS, LONG_CONTROL, LONG_DATA, LONG_OTHERS, SHORT, UNDEFINED};
 use decode::{DecodeEachTime, Decoded, KeptCode, decode, is_long};
-use decode_table::BoardDecodeTable;
+use decode::BoardDecodeTable;
 use operands::all_operands;
 use std::alloc::Global;
 use std::test::*;

@@ -11,7 +11,7 @@ use machine::{Decider, Exceptions, Fast, KeptCode, Machine, Slow, SysTickState};
 use std::alloc::Global;
 use std::test::*;
 use test_tables::check_between;
-use world_run::{WorldCount, world_run};
+use survey_run::{WorldCount, world_run};
 
 /// Cases. The code of an image with two worlds sets region 1 for all of flash, region 2 for a stack of 256 bytes,
 /// region 0 for 32 bytes of RAM, and then MPU_CTRL and CONTROL.nPRIV:

@@ -7,7 +7,7 @@ use platform::access::{Kind, Rule};
 use std::test::*;
 use survey::{Mark, Survey, Touch};
 use survey_run::survey_run;
-use world_run::WorldCount;
+use survey_run::WorldCount;
 
 /// An ELF file with this code from address 8 on, which begins there:
 ///

@@ -1,5 +1,5 @@
 use Rattle.std.proofs.Common.{◌≡◌, drop}
-use Rattle.wiring.specs.Wiring.{is_driven}
+use Rattle.platform.specs.Wiring.{is_driven}
 use Rattle.board.proofs.device_span.is_driven.Given as goal
 
 -- one of the devices drives the interrupt just where one of those that are left does

@@ -1,2 +1,0 @@
-pub mod WorldRuns
-pub mod CountModel

@@ -1,3 +1,0 @@
-mod Visible
-mod Joining
-mod Pairs
