@@ -5,8 +5,8 @@
 mod apart;
 mod counting;
 mod interval;
-pub mod laws;
 mod later;
+pub mod laws;
 mod lines;
 mod map;
 mod names;

@@ -14,6 +14,8 @@ mod lazy_systick;
 mod script;
 mod sets;
 mod systick_state;
+#[cfg(test)]
+mod tests;
 mod timer;
 
 use interrupts::take_events;

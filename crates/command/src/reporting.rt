@@ -18,9 +18,8 @@ use report::{Report, write_page};
 use std::alloc::Global;
 use std::io::Write;
 use survey::Survey;
-use survey_run::survey_run;
+use survey_run::{WorldCount, survey_run};
 use symbols::Symbols;
-use survey_run::WorldCount;
 
 /// The most bytes of a page: 2 MiB.
 const PAGE_BYTES: usize = 0x20_0000;

@@ -11,14 +11,13 @@ use crate::files::InputFile;
 use crate::opening::{Opened, open};
 use crate::reason::refuse;
 use crate::sending::send;
-use access_map::{Span, Worlds};
+use access_map::{Span, Worlds, are_all_apart, worlds_text};
 use command_line::TasksOptions;
 use machine::{Layout, Out, StartError, Stop};
 use std::alloc::Global;
 use std::io::Write;
-use symbols::Symbols;
 use survey_run::{WorldCount, world_run};
-use access_map::{are_all_apart, worlds_text};
+use symbols::Symbols;
 
 /// What `marm tasks` reports of a run, besides its text.
 #[derive(Clone, Copy)]

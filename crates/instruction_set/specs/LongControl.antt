@@ -81,25 +81,26 @@ long_hint_of number = if nat_lt number 240 then hint_of number else hint.Debug
 
 abbrev pub msr_t1 : Row
 msr_t1 = row (codes "11110 0 1110 0 z nnnn 10 z 0 kk zz ssssssss") (λ f. move_to_special_row f.n f.k f.s)
+
 abbrev pub mrs_t1 : Row
 mrs_t1 = row (codes "11110 0 1111 1 z oooo 10 z 0 dddd ssssssss") (λ f. move_from_special_row f.d f.s)
+
 -- The hints of 32 bits, encoding T2, and DBG, encoding T1
 abbrev pub nop_t2 : Row
 nop_t2 = row (codes "11110 0 1110 10 oooo 10 z 0 z 000 hhhhhhhh") (λ f. long (System (system.Hint (long_hint_of f.h))))
+
 abbrev pub clrex_t1 : Row
 clrex_t1 = row (codes "11110 0 1110 11 oooo 10 z 0 oooo 0010 oooo") (λ f. long (Exclusive exclusive.Clear))
+
 abbrev pub dsb_t1 : Row
 dsb_t1 = row (codes "11110 0 1110 11 oooo 10 z 0 oooo 0100 xxxx") (λ f. long (System (system.Hint hint.Barrier)))
+
 abbrev pub dmb_t1 : Row
 dmb_t1 = row (codes "11110 0 1110 11 oooo 10 z 0 oooo 0101 xxxx") (λ f. long (System (system.Hint hint.Barrier)))
+
 abbrev pub isb_t1 : Row
 isb_t1 = row (codes "11110 0 1110 11 oooo 10 z 0 oooo 0110 xxxx") (λ f. long (System (system.Hint hint.Barrier)))
-abbrev pub bl_t1 : Row
-bl_t1 =
-    row (codes "11110 S jjjjjjjjjj 11 J 1 K iiiiiiiiiii")
-    (λ f. branch_with_link_row (wide_offset (branch_offset f)))
-abbrev pub b_t4 : Row
-b_t4 = row (codes "11110 S jjjjjjjjjj 10 J 1 K iiiiiiiiiii") (λ f. branch_wide_row (wide_offset (branch_offset f)))
+
 -- B, encoding T3; with condition 111x these halfwords are those of the rows above, or UNDEFINED
 abbrev pub b_t3 : Row
 b_t3 =
@@ -109,4 +110,10 @@ b_t3 =
 
 abbrev pub long_control_rows : List Row
 long_control_rows =
-    msr_t1 ∷ mrs_t1 ∷ nop_t2 ∷ clrex_t1 ∷ dsb_t1 ∷ dmb_t1 ∷ isb_t1 ∷ bl_t1 ∷ b_t4 ∷ b_t3 ∷ []
+    msr_t1 ∷ mrs_t1 ∷ nop_t2 ∷ clrex_t1 ∷ dsb_t1 ∷ dmb_t1 ∷ isb_t1 ∷
+    -- BL, T1
+    row (codes "11110 S jjjjjjjjjj 11 J 1 K iiiiiiiiiii") (λ f. branch_with_link_row (wide_offset (branch_offset f))) ∷
+    -- B, T4
+    row (codes "11110 S jjjjjjjjjj 10 J 1 K iiiiiiiiiii") (λ f. branch_wide_row (wide_offset (branch_offset f))) ∷
+    b_t3 ∷
+    []

@@ -74,10 +74,12 @@ abbrev pub strex_t1 : Row
 strex_t1 =
     row (codes "1110100 00100 nnnn tttt dddd iiiiiiii")
     (λ f. store_exclusive_row (record { size = Word; status = f.d; target = f.t; base = f.n; offset = f.i * 4 }))
+
 abbrev pub ldrex_t1 : Row
 ldrex_t1 =
     row (codes "1110100 00101 nnnn tttt oooo iiiiiiii")
     (λ f. load_exclusive_row (record { size = Word; target = f.t; base = f.n; offset = f.i * 4 }))
+
 -- STREXB and STREXH, encoding T1
 abbrev pub strexb_t1 : Row
 strexb_t1 =
@@ -89,14 +91,17 @@ strexb_t1 =
       base = f.n;
       offset = 0;
     }))
+
 -- LDREXB and LDREXH, encoding T1
 abbrev pub ldrexb_t1 : Row
 ldrexb_t1 =
     row (codes "1110100 01101 nnnn tttt oooo 010 H oooo")
     (λ f. load_exclusive_row (record { size = byte_or_halfword f.H; target = f.t; base = f.n; offset = 0 }))
+
 -- TBB and TBH, encoding T1
 abbrev pub tbb_t1 : Row
 tbb_t1 = row (codes "1110100 01101 nnnn oooo zzzz 000 H mmmm") (λ f. table_branch_row (byte_or_halfword f.H) f.n f.m)
+
 -- LDRD (literal), encoding T1; P = 0 with W = 0 are the rows above, or UNDEFINED
 abbrev pub ldrd_literal_t1 : Row
 ldrd_literal_t1 =
@@ -107,12 +112,14 @@ ldrd_literal_t1 =
       second = f.u;
       offset = signed_offset f.U (f.i * 4);
     }))
+
 -- LDRD (immediate), encoding T1; P = 0 with W = 0 are the rows above, or UNDEFINED; with n = 1111 it is LDRD (literal)
 abbrev pub ldrd_immediate_t1 : Row
 ldrd_immediate_t1 =
     row_but (codes "1110100 P U 1 W 1 nnnn tttt uuuu iiiiiiii")
     (codes "xxxxxxx 0 x x 0 x xxxx xxxx xxxx xxxxxxxx" ∷ codes "xxxxxxx x x x x x 1111 xxxx xxxx xxxxxxxx" ∷ [])
     (λ f. load_dual_row (record { first = f.t; second = f.u; address = dual_address f }))
+
 -- STRD (immediate), encoding T1; P = 0 with W = 0 are the rows above, or UNDEFINED
 abbrev pub strd_immediate_t1 : Row
 strd_immediate_t1 =

@@ -116,40 +116,48 @@ abbrev pub tst_immediate_t1 : Row
 tst_immediate_t1 =
     row (codes "11110 i 0 0000 1 nnnn 0 iii 1111 iiiiiiii")
     (λ f. compare_immediate_row Test f.n (modified_immediate f.i))
+
 -- AND (immediate), encoding T1; with S = 1 and d = 1111 it is TST
 abbrev pub and_immediate_t1 : Row
 and_immediate_t1 =
     row_but (codes "11110 i 0 0000 S nnnn 0 iii dddd iiiiiiii")
     (codes "xxxxx x x xxxx 1 xxxx x xxx 1111 xxxxxxxx" ∷ [])
     (λ f. data_immediate_row And (f.S == 1) f.n f.d (modified_immediate f.i))
+
 abbrev pub bic_immediate_t1 : Row
 bic_immediate_t1 =
     row (codes "11110 i 0 0001 S nnnn 0 iii dddd iiiiiiii")
     (λ f. data_immediate_row BitClear (f.S == 1) f.n f.d (modified_immediate f.i))
+
 abbrev pub mov_immediate_t2 : Row
 mov_immediate_t2 =
     row (codes "11110 i 0 0010 S 1111 0 iii dddd iiiiiiii")
     (λ f. move_immediate_row Move (f.S == 1) f.d (modified_immediate f.i))
+
 -- ORR (immediate), encoding T1; with n = 1111 it is MOV
 abbrev pub orr_immediate_t1 : Row
 orr_immediate_t1 =
     row_but (codes "11110 i 0 0010 S nnnn 0 iii dddd iiiiiiii")
     (codes "xxxxx x x xxxx x 1111 x xxx xxxx xxxxxxxx" ∷ [])
     (λ f. data_immediate_row Or (f.S == 1) f.n f.d (modified_immediate f.i))
+
 abbrev pub mvn_immediate_t1 : Row
 mvn_immediate_t1 =
     row (codes "11110 i 0 0011 S 1111 0 iii dddd iiiiiiii")
     (λ f. move_immediate_row MoveNot (f.S == 1) f.d (modified_immediate f.i))
+
 -- ORN (immediate), encoding T1; with n = 1111 it is MVN
 abbrev pub orn_immediate_t1 : Row
 orn_immediate_t1 =
     row_but (codes "11110 i 0 0011 S nnnn 0 iii dddd iiiiiiii")
     (codes "xxxxx x x xxxx x 1111 x xxx xxxx xxxxxxxx" ∷ [])
     (λ f. data_immediate_row OrNot (f.S == 1) f.n f.d (modified_immediate f.i))
+
 abbrev pub teq_immediate_t1 : Row
 teq_immediate_t1 =
     row (codes "11110 i 0 0100 1 nnnn 0 iii 1111 iiiiiiii")
     (λ f. compare_immediate_row TestEquivalence f.n (modified_immediate f.i))
+
 -- EOR (immediate), encoding T1; with S = 1 and d = 1111 it is TEQ
 abbrev pub eor_immediate_t1 : Row
 eor_immediate_t1 =
@@ -166,30 +174,36 @@ abbrev pub cmn_immediate_t1 : Row
 cmn_immediate_t1 =
     row (codes "11110 i 0 1000 1 nnnn 0 iii 1111 iiiiiiii")
     (λ f. compare_immediate_row CompareNegative f.n (modified_immediate f.i))
+
 -- ADD (immediate), encoding T3; with S = 1 and d = 1111 it is CMN
 abbrev pub add_immediate_t3 : Row
 add_immediate_t3 =
     row_but (codes "11110 i 0 1000 S nnnn 0 iii dddd iiiiiiii")
     (codes "xxxxx x x xxxx 1 xxxx x xxx 1111 xxxxxxxx" ∷ [])
     (λ f. data_immediate_row Add (f.S == 1) f.n f.d (modified_immediate f.i))
+
 abbrev pub adc_immediate_t1 : Row
 adc_immediate_t1 =
     row (codes "11110 i 0 1010 S nnnn 0 iii dddd iiiiiiii")
     (λ f. data_immediate_row AddWithCarry (f.S == 1) f.n f.d (modified_immediate f.i))
+
 abbrev pub sbc_immediate_t1 : Row
 sbc_immediate_t1 =
     row (codes "11110 i 0 1011 S nnnn 0 iii dddd iiiiiiii")
     (λ f. data_immediate_row SubtractWithCarry (f.S == 1) f.n f.d (modified_immediate f.i))
+
 abbrev pub cmp_immediate_t2 : Row
 cmp_immediate_t2 =
     row (codes "11110 i 0 1101 1 nnnn 0 iii 1111 iiiiiiii")
     (λ f. compare_immediate_row Compare f.n (modified_immediate f.i))
+
 -- SUB (immediate), encoding T3; with S = 1 and d = 1111 it is CMP
 abbrev pub sub_immediate_t3 : Row
 sub_immediate_t3 =
     row_but (codes "11110 i 0 1101 S nnnn 0 iii dddd iiiiiiii")
     (codes "xxxxx x x xxxx 1 xxxx x xxx 1111 xxxxxxxx" ∷ [])
     (λ f. data_immediate_row Subtract (f.S == 1) f.n f.d (modified_immediate f.i))
+
 abbrev pub rsb_immediate_t2 : Row
 rsb_immediate_t2 =
     row (codes "11110 i 0 1110 S nnnn 0 iii dddd iiiiiiii")

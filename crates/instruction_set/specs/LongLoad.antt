@@ -78,18 +78,21 @@ memory_hint_indexed_row half m = unless (is_bad m) place.Anywhere cause.Register
 -- PLD (literal), encoding T1, PLI (literal), encoding T3, and the hint of a halfword
 abbrev pub pld_literal_t1 : Row
 pld_literal_t1 = row (codes "1111100 x x 0s 1 1111 1111 xxxxxxxxxxxx") (λ f. memory_hint_row f.s)
+
 -- LDRB, LDRSB, LDRH and LDRSH (literal), encoding T1; with t = 1111 they are hints
 abbrev pub ldrb_literal_t1 : Row
 ldrb_literal_t1 =
     row_but (codes "1111100 X U 0s 1 1111 tttt iiiiiiiiiiii")
     (codes "xxxxxxx x x xx x xxxx 1111 xxxxxxxxxxxx" ∷ [])
     (λ f. load_literal_row (narrow_form f.X f.s) f.t (signed_offset f.U f.i))
+
 -- PLD and PLI (immediate), encoding T1, and the hint of a halfword; with n = 1111 they are literal
 abbrev pub pld_immediate_t1 : Row
 pld_immediate_t1 =
     row_but (codes "1111100 x 1 0s 1 xxxx 1111 xxxxxxxxxxxx")
     (codes "xxxxxxx x x xx x 1111 xxxx xxxxxxxxxxxx" ∷ [])
     (λ f. memory_hint_row f.s)
+
 -- LDRB and LDRH (immediate), encoding T2; LDRSB and LDRSH, encoding T1; with n = 1111 they are literal, with t = 1111
 -- hints
 abbrev pub ldrb_immediate_t2 : Row
@@ -97,12 +100,14 @@ ldrb_immediate_t2 =
     row_but (codes "1111100 X 1 0s 1 nnnn tttt iiiiiiiiiiii")
     (codes "xxxxxxx x x xx x 1111 xxxx xxxxxxxxxxxx" ∷ codes "xxxxxxx x x xx x xxxx 1111 xxxxxxxxxxxx" ∷ [])
     (λ f. load_at_row (narrow_form f.X f.s) f.t (at_offset f.n f.i))
+
 -- PLD and PLI (register), encoding T1, and the hint of a halfword; with n = 1111 they are literal
 abbrev pub pld_register_t1 : Row
 pld_register_t1 =
     row_but (codes "1111100 x 0 0s 1 xxxx 1111 0 00000 xx mmmm")
     (codes "xxxxxxx x x xx x 1111 xxxx x xxxxx xx xxxx" ∷ [])
     (λ f. memory_hint_indexed_row f.s f.m)
+
 -- LDRB, LDRSB, LDRH and LDRSH (register), encoding T2; with n = 1111 they are literal, with t = 1111 hints
 abbrev pub ldrb_register_t2 : Row
 ldrb_register_t2 =
@@ -113,27 +118,30 @@ ldrb_register_t2 =
       target = f.t;
       address = record { base = f.n; index = f.m; shift = f.i };
     }))
+
 -- PLD and PLI (immediate), encoding T2, and the hint of a halfword; with n = 1111 they are literal
 abbrev pub pld_immediate_t2 : Row
 pld_immediate_t2 =
     row_but (codes "1111100 x 0 0s 1 xxxx 1111 1 1 0 0 xxxxxxxx")
     (codes "xxxxxxx x x xx x 1111 xxxx x x x x xxxxxxxx" ∷ [])
     (λ f. memory_hint_row f.s)
+
 -- LDRBT, LDRSBT, LDRHT and LDRSHT, encoding T1; with n = 1111 they are literal
 abbrev pub ldrbt_t1 : Row
 ldrbt_t1 =
     row_but (codes "1111100 X 0 0s 1 nnnn tttt 1 1 1 0 iiiiiiii")
     (codes "xxxxxxx x x xx x 1111 xxxx x x x x xxxxxxxx" ∷ [])
     (λ f. load_unprivileged_row (narrow_form f.X f.s) f.t (at_offset f.n f.i))
+
 -- LDRB and LDRH (immediate), encoding T3; LDRSB and LDRSH, encoding T2; with n = 1111 they are literal; with t = 1111
 -- and P, U, W = 100 they are hints; P, U, W = 110 are the unprivileged forms; and P = 0 with W = 0 is UNDEFINED
 abbrev pub ldrb_immediate_t3 : Row
 ldrb_immediate_t3 =
     row_but (codes "1111100 X 0 0s 1 nnnn tttt 1 P U W iiiiiiii")
     (codes "xxxxxxx x x xx x 1111 xxxx x x x x xxxxxxxx" ∷
-     codes "xxxxxxx x x xx x xxxx 1111 x 1 0 0 xxxxxxxx" ∷
-     codes "xxxxxxx x x xx x xxxx xxxx x 1 1 0 xxxxxxxx" ∷
-     codes "xxxxxxx x x xx x xxxx xxxx x 0 x 0 xxxxxxxx" ∷ [])
+    codes "xxxxxxx x x xx x xxxx 1111 x 1 0 0 xxxxxxxx" ∷
+    codes "xxxxxxx x x xx x xxxx xxxx x 1 1 0 xxxxxxxx" ∷
+    codes "xxxxxxx x x xx x xxxx xxxx x 0 x 0 xxxxxxxx" ∷ [])
     (λ f. load_at_row (narrow_form f.X f.s) f.t (record {
       base = f.n;
       offset = signed_offset f.U f.i;
@@ -149,12 +157,14 @@ abbrev pub ldr_literal_t2 : Row
 ldr_literal_t2 =
     row (codes "11111000 U 10 1 1111 tttt iiiiiiiiiiii")
     (λ f. load_literal_row word_form f.t (signed_offset f.U f.i))
+
 -- LDR (immediate), encoding T3; with n = 1111 it is literal
 abbrev pub ldr_immediate_t3 : Row
 ldr_immediate_t3 =
     row_but (codes "11111000 1 10 1 nnnn tttt iiiiiiiiiiii")
     (codes "xxxxxxxx x xx x 1111 xxxx xxxxxxxxxxxx" ∷ [])
     (λ f. load_at_row word_form f.t (at_offset f.n f.i))
+
 -- LDR (register), encoding T2; with n = 1111 it is literal
 abbrev pub ldr_register_t2 : Row
 ldr_register_t2 =
@@ -165,19 +175,21 @@ ldr_register_t2 =
       target = f.t;
       address = record { base = f.n; index = f.m; shift = f.i };
     }))
+
 -- LDRT, encoding T1; with n = 1111 it is literal
 abbrev pub ldrt_t1 : Row
 ldrt_t1 =
     row_but (codes "11111000 0 10 1 nnnn tttt 1 1 1 0 iiiiiiii")
     (codes "xxxxxxxx x xx x 1111 xxxx x x x x xxxxxxxx" ∷ [])
     (λ f. load_unprivileged_row word_form f.t (at_offset f.n f.i))
+
 -- LDR (immediate), encoding T4; with n = 1111 it is literal; P, U, W = 110 is LDRT, and P = 0 with W = 0 is UNDEFINED
 abbrev pub ldr_immediate_t4 : Row
 ldr_immediate_t4 =
     row_but (codes "11111000 0 10 1 nnnn tttt 1 P U W iiiiiiii")
     (codes "xxxxxxxx x xx x 1111 xxxx x x x x xxxxxxxx" ∷
-     codes "xxxxxxxx x xx x xxxx xxxx x 1 1 0 xxxxxxxx" ∷
-     codes "xxxxxxxx x xx x xxxx xxxx x 0 x 0 xxxxxxxx" ∷ [])
+    codes "xxxxxxxx x xx x xxxx xxxx x 1 1 0 xxxxxxxx" ∷
+    codes "xxxxxxxx x xx x xxxx xxxx x 0 x 0 xxxxxxxx" ∷ [])
     (λ f. load_at_row word_form f.t (record {
       base = f.n;
       offset = signed_offset f.U f.i;

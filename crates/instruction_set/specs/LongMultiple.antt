@@ -43,6 +43,7 @@ stm_t2 =
       order = IncrementAfter;
       write_back = f.W == 1;
     }))
+
 abbrev pub ldm_t2 : Row
 ldm_t2 =
     row (codes "11101 00 01 0 W 1 nnnn P M z lllllllllllll")
@@ -52,6 +53,7 @@ ldm_t2 =
       order = IncrementAfter;
       write_back = f.W == 1;
     }))
+
 abbrev pub stmdb_t1 : Row
 stmdb_t1 =
     row (codes "11101 00 10 0 W 0 nnnn z M z lllllllllllll")
@@ -61,6 +63,7 @@ stmdb_t1 =
       order = DecrementBefore;
       write_back = f.W == 1;
     }))
+
 abbrev pub ldmdb_t1 : Row
 ldmdb_t1 =
     row (codes "11101 00 10 0 W 1 nnnn P M z lllllllllllll")

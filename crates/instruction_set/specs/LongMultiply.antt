@@ -49,16 +49,14 @@ divide_row o =
 
 abbrev pub mul_t2 : Row
 mul_t2 = row (codes "111110110 000 nnnn 1111 dddd 0000 mmmm") (λ f. multiply_wide_row f.n f.d f.m)
+
 -- MLA, encoding T1; with a = 1111 it is MUL
 abbrev pub mla_t1 : Row
 mla_t1 =
     row_but (codes "111110110 000 nnnn aaaa dddd 0000 mmmm")
     (codes "xxxxxxxxx xxx xxxx 1111 xxxx xxxx xxxx" ∷ [])
     (λ f. multiply_accumulate_row (product_sum sum.Add f))
-abbrev pub mls_t1 : Row
-mls_t1 =
-    row (codes "111110110 000 nnnn aaaa dddd 0001 mmmm")
-    (λ f. multiply_accumulate_row (product_sum sum.Subtract f))
+
 -- SMULL, UMULL, SMLAL and UMLAL, encoding T1
 abbrev pub smull_t1 : Row
 smull_t1 =
@@ -71,11 +69,13 @@ smull_t1 =
       first = f.n;
       second = f.m;
     }))
+
 -- SDIV and UDIV, encoding T1
 abbrev pub sdiv_t1 : Row
 sdiv_t1 =
     row (codes "111110111 0 u 1 nnnn oooo dddd 1111 mmmm")
     (λ f. divide_row (record { signed = f.u == 0; destination = f.d; dividend = f.n; divisor = f.m }))
+
 -- The instructions of coprocessors: every first halfword 111x11.. is NOCP (profile). For 111x1111 the manual is unclear
 -- (docs/CROSSCHECK.md)
 abbrev pub coprocessor : Row
@@ -83,4 +83,8 @@ coprocessor = row (codes "111 x 11 xx xxxxxxxx xxxxxxxxxxxxxxxx") (λ f. NoCopro
 
 abbrev pub product_rows : List Row
 product_rows =
-    mul_t2 ∷ mla_t1 ∷ mls_t1 ∷ smull_t1 ∷ sdiv_t1 ∷ coprocessor ∷ []
+    mul_t2 ∷ mla_t1 ∷
+    -- MLS, T1
+    row (codes "111110110 000 nnnn aaaa dddd 0001 mmmm") (λ f. multiply_accumulate_row (product_sum sum.Subtract f)) ∷
+    smull_t1 ∷ sdiv_t1 ∷ coprocessor ∷
+    []

@@ -84,24 +84,24 @@ clear_field_row d low high =
 
 abbrev pub adr_t3 : Row
 adr_t3 = row (codes "11110 i 1 00000 1111 0 iii dddd iiiiiiii") (λ f. address_wide_row f.d f.i)
+
 -- ADD (immediate), encoding T4; with n = 1111 it is ADR
 abbrev pub add_immediate_t4 : Row
 add_immediate_t4 =
     row_but (codes "11110 i 1 00000 nnnn 0 iii dddd iiiiiiii")
     (codes "xxxxx x x xxxxx 1111 x xxx xxxx xxxxxxxx" ∷ [])
     (λ f. add_wide_row Add f.n f.d f.i)
-abbrev pub mov_immediate_t3 : Row
-mov_immediate_t3 = row (codes "11110 i 1 00100 nnnn 0 iii dddd iiiiiiii") (λ f. move_wide_row f.d (halfword f.n f.i))
+
 abbrev pub adr_t2 : Row
 adr_t2 = row (codes "11110 i 1 01010 1111 0 iii dddd iiiiiiii") (λ f. address_wide_row f.d (negated f.i))
+
 -- SUB (immediate), encoding T4; with n = 1111 it is ADR
 abbrev pub sub_immediate_t4 : Row
 sub_immediate_t4 =
     row_but (codes "11110 i 1 01010 nnnn 0 iii dddd iiiiiiii")
     (codes "xxxxx x x xxxxx 1111 x xxx xxxx xxxxxxxx" ∷ [])
     (λ f. add_wide_row Subtract f.n f.d f.i)
-abbrev pub movt_t1 : Row
-movt_t1 = row (codes "11110 i 1 01100 nnnn 0 iii dddd iiiiiiii") (λ f. move_top_row f.d (halfword f.n f.i))
+
 -- SSAT, encoding T1; ASR (h = 1) by 00000 is UNDEFINED
 abbrev pub ssat_t1 : Row
 ssat_t1 =
@@ -113,6 +113,7 @@ ssat_t1 =
       bits = f.w + 1;
       source = shifted_by_number f.n (f.h * 2) f.i;
     }))
+
 abbrev pub sbfx_t1 : Row
 sbfx_t1 =
     row (codes "11110 z 1 10100 nnnn 0 iii dddd ii z wwwww")
@@ -123,14 +124,17 @@ sbfx_t1 =
       low = f.i;
       width = f.w + 1;
     }))
+
 abbrev pub bfc_t1 : Row
 bfc_t1 = row (codes "11110 z 1 10110 1111 0 iii dddd ii z wwwww") (λ f. clear_field_row f.d f.i f.w)
+
 -- BFI, encoding T1; with n = 1111 it is BFC
 abbrev pub bfi_t1 : Row
 bfi_t1 =
     row_but (codes "11110 z 1 10110 nnnn 0 iii dddd ii z wwwww")
     (codes "xxxxx x x xxxxx 1111 x xxx xxxx xx x xxxxx" ∷ [])
     (λ f. insert_field_row f.n f.d f.i f.w)
+
 -- USAT, encoding T1; ASR (h = 1) by 00000 is UNDEFINED
 abbrev pub usat_t1 : Row
 usat_t1 =
@@ -142,6 +146,7 @@ usat_t1 =
       bits = f.w;
       source = shifted_by_number f.n (f.h * 2) f.i;
     }))
+
 abbrev pub ubfx_t1 : Row
 ubfx_t1 =
     row (codes "11110 z 1 11100 nnnn 0 iii dddd ii z wwwww")
@@ -155,5 +160,10 @@ ubfx_t1 =
 
 abbrev pub plain_rows : List Row
 plain_rows =
-    adr_t3 ∷ add_immediate_t4 ∷ mov_immediate_t3 ∷ adr_t2 ∷ sub_immediate_t4 ∷ movt_t1 ∷ ssat_t1 ∷ sbfx_t1 ∷ bfc_t1 ∷
-    bfi_t1 ∷ usat_t1 ∷ ubfx_t1 ∷ []
+    adr_t3 ∷ add_immediate_t4 ∷
+    -- MOV (immediate), T3
+    row (codes "11110 i 1 00100 nnnn 0 iii dddd iiiiiiii") (λ f. move_wide_row f.d (halfword f.n f.i)) ∷
+    adr_t2 ∷ sub_immediate_t4 ∷
+    row (codes "11110 i 1 01100 nnnn 0 iii dddd iiiiiiii") (λ f. move_top_row f.d (halfword f.n f.i)) ∷  -- MOVT, T1
+    ssat_t1 ∷ sbfx_t1 ∷ bfc_t1 ∷ bfi_t1 ∷ usat_t1 ∷ ubfx_t1 ∷
+    []

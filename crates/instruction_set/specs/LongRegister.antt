@@ -58,6 +58,7 @@ lsl_register_t2 =
       source = f.n;
       amount = f.m;
     }))
+
 -- SXTH, UXTH, SXTB and UXTB, encoding T2
 abbrev pub sxth_t2 : Row
 sxth_t2 =
@@ -69,21 +70,22 @@ sxth_t2 =
       source = f.m;
       rotation = f.r * 8;
     }))
-abbrev pub rev_t2 : Row
-rev_t2 = row (codes "11111010 1 001 nnnn 1111 dddd 1 0 00 mmmm") (λ f. rearrange_wide_row ReverseWord f.n f.d f.m)
-abbrev pub rev16_t2 : Row
-rev16_t2 =
-    row (codes "11111010 1 001 nnnn 1111 dddd 1 0 01 mmmm")
-    (λ f. rearrange_wide_row ReverseHalfwords f.n f.d f.m)
-abbrev pub rbit_t1 : Row
-rbit_t1 = row (codes "11111010 1 001 nnnn 1111 dddd 1 0 10 mmmm") (λ f. rearrange_wide_row ReverseBits f.n f.d f.m)
+
 abbrev pub revsh_t2 : Row
 revsh_t2 =
     row (codes "11111010 1 001 nnnn 1111 dddd 1 0 11 mmmm")
     (λ f. rearrange_wide_row ReverseSignedHalfword f.n f.d f.m)
-abbrev pub clz_t1 : Row
-clz_t1 = row (codes "11111010 1 011 nnnn 1111 dddd 1 0 00 mmmm") (λ f. rearrange_wide_row CountLeadingZeros f.n f.d f.m)
 
 abbrev pub register_rows : List Row
 register_rows =
-    lsl_register_t2 ∷ sxth_t2 ∷ rev_t2 ∷ rev16_t2 ∷ rbit_t1 ∷ revsh_t2 ∷ clz_t1 ∷ []
+    lsl_register_t2 ∷ sxth_t2 ∷
+    -- REV, T2
+    row (codes "11111010 1 001 nnnn 1111 dddd 1 0 00 mmmm") (λ f. rearrange_wide_row ReverseWord f.n f.d f.m) ∷
+    -- REV16, T2
+    row (codes "11111010 1 001 nnnn 1111 dddd 1 0 01 mmmm") (λ f. rearrange_wide_row ReverseHalfwords f.n f.d f.m) ∷
+    -- RBIT, T1
+    row (codes "11111010 1 001 nnnn 1111 dddd 1 0 10 mmmm") (λ f. rearrange_wide_row ReverseBits f.n f.d f.m) ∷
+    revsh_t2 ∷
+    -- CLZ, T1
+    row (codes "11111010 1 011 nnnn 1111 dddd 1 0 00 mmmm") (λ f. rearrange_wide_row CountLeadingZeros f.n f.d f.m) ∷
+    []

@@ -85,41 +85,49 @@ abbrev pub tst_register_t2 : Row
 tst_register_t2 =
     row (codes "1110101 0000 1 nnnn z iii 1111 ii tt mmmm")
     (λ f. compare_shifted_row Test f.n (shifted_by_number f.m f.t f.i))
+
 -- AND (register), encoding T2; with S = 1 and d = 1111 it is TST
 abbrev pub and_register_t2 : Row
 and_register_t2 =
     row_but (codes "1110101 0000 S nnnn z iii dddd ii tt mmmm")
     (codes "xxxxxxx xxxx 1 xxxx x xxx 1111 xx xx xxxx" ∷ [])
     (λ f. data_shifted_row And (f.S == 1) f.n f.d (shifted_by_number f.m f.t f.i))
+
 abbrev pub bic_register_t2 : Row
 bic_register_t2 =
     row (codes "1110101 0001 S nnnn z iii dddd ii tt mmmm")
     (λ f. data_shifted_row BitClear (f.S == 1) f.n f.d (shifted_by_number f.m f.t f.i))
+
 -- MOV (register), encoding T3; LSL, LSR, ASR and ROR by a number, and RRX, are this
 abbrev pub mov_register_t3 : Row
 mov_register_t3 =
     row (codes "1110101 0010 S 1111 z iii dddd ii tt mmmm")
     (λ f. move_shifted_row (f.S == 1) f.d (shifted_by_number f.m f.t f.i))
+
 -- ORR (register), encoding T2; with n = 1111 it is MOV
 abbrev pub orr_register_t2 : Row
 orr_register_t2 =
     row_but (codes "1110101 0010 S nnnn z iii dddd ii tt mmmm")
     (codes "xxxxxxx xxxx x 1111 x xxx xxxx xx xx xxxx" ∷ [])
     (λ f. data_shifted_row Or (f.S == 1) f.n f.d (shifted_by_number f.m f.t f.i))
+
 abbrev pub mvn_register_t2 : Row
 mvn_register_t2 =
     row (codes "1110101 0011 S 1111 z iii dddd ii tt mmmm")
     (λ f. move_not_shifted_row (f.S == 1) f.d (shifted_by_number f.m f.t f.i))
+
 -- ORN (register), encoding T1; with n = 1111 it is MVN
 abbrev pub orn_register_t1 : Row
 orn_register_t1 =
     row_but (codes "1110101 0011 S nnnn z iii dddd ii tt mmmm")
     (codes "xxxxxxx xxxx x 1111 x xxx xxxx xx xx xxxx" ∷ [])
     (λ f. data_shifted_row OrNot (f.S == 1) f.n f.d (shifted_by_number f.m f.t f.i))
+
 abbrev pub teq_register_t1 : Row
 teq_register_t1 =
     row (codes "1110101 0100 1 nnnn z iii 1111 ii tt mmmm")
     (λ f. compare_shifted_row TestEquivalence f.n (shifted_by_number f.m f.t f.i))
+
 -- EOR (register), encoding T2; with S = 1 and d = 1111 it is TEQ
 abbrev pub eor_register_t2 : Row
 eor_register_t2 =
@@ -136,30 +144,36 @@ abbrev pub cmn_register_t2 : Row
 cmn_register_t2 =
     row (codes "1110101 1000 1 nnnn z iii 1111 ii tt mmmm")
     (λ f. compare_shifted_row CompareNegative f.n (shifted_by_number f.m f.t f.i))
+
 -- ADD (register), encoding T3; with S = 1 and d = 1111 it is CMN
 abbrev pub add_register_t3 : Row
 add_register_t3 =
     row_but (codes "1110101 1000 S nnnn z iii dddd ii tt mmmm")
     (codes "xxxxxxx xxxx 1 xxxx x xxx 1111 xx xx xxxx" ∷ [])
     (λ f. data_shifted_row Add (f.S == 1) f.n f.d (shifted_by_number f.m f.t f.i))
+
 abbrev pub adc_register_t2 : Row
 adc_register_t2 =
     row (codes "1110101 1010 S nnnn z iii dddd ii tt mmmm")
     (λ f. data_shifted_row AddWithCarry (f.S == 1) f.n f.d (shifted_by_number f.m f.t f.i))
+
 abbrev pub sbc_register_t2 : Row
 sbc_register_t2 =
     row (codes "1110101 1011 S nnnn z iii dddd ii tt mmmm")
     (λ f. data_shifted_row SubtractWithCarry (f.S == 1) f.n f.d (shifted_by_number f.m f.t f.i))
+
 abbrev pub cmp_register_t3 : Row
 cmp_register_t3 =
     row (codes "1110101 1101 1 nnnn z iii 1111 ii tt mmmm")
     (λ f. compare_shifted_row Compare f.n (shifted_by_number f.m f.t f.i))
+
 -- SUB (register), encoding T2; with S = 1 and d = 1111 it is CMP
 abbrev pub sub_register_t2 : Row
 sub_register_t2 =
     row_but (codes "1110101 1101 S nnnn z iii dddd ii tt mmmm")
     (codes "xxxxxxx xxxx 1 xxxx x xxx 1111 xx xx xxxx" ∷ [])
     (λ f. data_shifted_row Subtract (f.S == 1) f.n f.d (shifted_by_number f.m f.t f.i))
+
 abbrev pub rsb_register_t1 : Row
 rsb_register_t1 =
     row (codes "1110101 1110 S nnnn z iii dddd ii tt mmmm")

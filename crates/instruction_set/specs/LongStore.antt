@@ -50,6 +50,7 @@ str_immediate_t3 =
     row_but (codes "11111000 1 ss 0 nnnn tttt iiiiiiiiiiii")
     (codes "xxxxxxxx x xx x 1111 xxxx xxxxxxxxxxxx" ∷ codes "xxxxxxxx x 11 x xxxx xxxx xxxxxxxxxxxx" ∷ [])
     (λ f. store_at_row (size_of f.s) f.t (at_offset f.n f.i))
+
 -- STR, STRB and STRH (register), encoding T2
 abbrev pub str_register_t2 : Row
 str_register_t2 =
@@ -60,21 +61,23 @@ str_register_t2 =
       target = f.t;
       address = record { base = f.n; index = f.m; shift = f.i };
     }))
+
 -- STRT, STRBT and STRHT, encoding T1
 abbrev pub strt_t1 : Row
 strt_t1 =
     row_but (codes "11111000 0 ss 0 nnnn tttt 1 1 1 0 iiiiiiii")
     (codes "xxxxxxxx x xx x 1111 xxxx x x x x xxxxxxxx" ∷ codes "xxxxxxxx x 11 x xxxx xxxx x x x x xxxxxxxx" ∷ [])
     (λ f. store_unprivileged_row (size_of f.s) f.t (at_offset f.n f.i))
+
 -- STR (immediate), encoding T4; STRB and STRH, encoding T3; P, U, W = 110 are the unprivileged forms, and P = 0 with
 -- W = 0 is UNDEFINED
 abbrev pub str_immediate_t4 : Row
 str_immediate_t4 =
     row_but (codes "11111000 0 ss 0 nnnn tttt 1 P U W iiiiiiii")
     (codes "xxxxxxxx x xx x 1111 xxxx x x x x xxxxxxxx" ∷
-     codes "xxxxxxxx x 11 x xxxx xxxx x x x x xxxxxxxx" ∷
-     codes "xxxxxxxx x xx x xxxx xxxx x 1 1 0 xxxxxxxx" ∷
-     codes "xxxxxxxx x xx x xxxx xxxx x 0 x 0 xxxxxxxx" ∷ [])
+    codes "xxxxxxxx x 11 x xxxx xxxx x x x x xxxxxxxx" ∷
+    codes "xxxxxxxx x xx x xxxx xxxx x 1 1 0 xxxxxxxx" ∷
+    codes "xxxxxxxx x xx x xxxx xxxx x 0 x 0 xxxxxxxx" ∷ [])
     (λ f. store_at_row (size_of f.s) f.t (record {
       base = f.n;
       offset = signed_offset f.U f.i;

@@ -55,8 +55,9 @@ pub record Row : Type 0 where
   pub except : List (List ℕ)
   pub gives : Letters → Decoded
 
--- the row of a text and a decoding, with no exceptions. A row has the name of its encoding in the manual:
--- `and_register_t1` is AND (register), encoding T1
+-- the row of a text and a decoding, with no exceptions. The tables have the rows in the manual's order, each with the
+-- manual's name of its encoding; a row that a law names is defined above its table: `and_register_t2` is AND (register),
+-- encoding T2
 abbrev pub row : List ℕ → (Letters → Decoded) → Row
 row text gives = record { places = unspaced text; except = []; gives = gives }
 

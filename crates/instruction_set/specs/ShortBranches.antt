@@ -26,14 +26,16 @@ branch_row halfwords = placed Short place.LastOnly
 
 abbrev pub udf_t1 : Row
 udf_t1 = row (codes "1101 1110 iiiiiiii") (λ f. Undefined)
+
 abbrev pub svc_t1 : Row
 svc_t1 = row (codes "1101 1111 iiiiiiii") (λ f. short (System (SupervisorCall f.i)))
+
 -- B, encoding T1; with the condition 1110 it is UDF, with 1111 SVC
 abbrev pub b_t1 : Row
 b_t1 = row_but (codes "1101 cccc iiiiiiii") (codes "xxxx 111x xxxxxxxx" ∷ []) (λ f. branch_if_row f.c f.i)
-abbrev pub b_t2 : Row
-b_t2 = row (codes "11100 iiiiiiiiiii") (λ f. branch_row f.i)
 
 abbrev pub branch_rows : List Row
 branch_rows =
-    udf_t1 ∷ svc_t1 ∷ b_t1 ∷ b_t2 ∷ []
+    udf_t1 ∷ svc_t1 ∷ b_t1 ∷
+    row (codes "11100 iiiiiiiiiii") (λ f. branch_row f.i) ∷  -- B, T2
+    []

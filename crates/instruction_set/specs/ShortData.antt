@@ -50,47 +50,27 @@ multiply_row d m =
 
 -- ---- the rows: opcodes 0000 to 0111, then 1000 to 1111
 
-abbrev pub and_register_t1 : Row
-and_register_t1 = row (codes "010000 0000 mmm ddd") (λ f. data_registers_row And f.d f.d f.m)
-abbrev pub eor_register_t1 : Row
-eor_register_t1 = row (codes "010000 0001 mmm ddd") (λ f. data_registers_row ExclusiveOr f.d f.d f.m)
-abbrev pub lsl_register_t1 : Row
-lsl_register_t1 = row (codes "010000 0010 mmm ddd") (λ f. shift_register_row Lsl f.d f.m)
-abbrev pub lsr_register_t1 : Row
-lsr_register_t1 = row (codes "010000 0011 mmm ddd") (λ f. shift_register_row Lsr f.d f.m)
-abbrev pub asr_register_t1 : Row
-asr_register_t1 = row (codes "010000 0100 mmm ddd") (λ f. shift_register_row Asr f.d f.m)
-abbrev pub adc_register_t1 : Row
-adc_register_t1 = row (codes "010000 0101 mmm ddd") (λ f. data_registers_row AddWithCarry f.d f.d f.m)
-abbrev pub sbc_register_t1 : Row
-sbc_register_t1 = row (codes "010000 0110 mmm ddd") (λ f. data_registers_row SubtractWithCarry f.d f.d f.m)
-abbrev pub ror_register_t1 : Row
-ror_register_t1 = row (codes "010000 0111 mmm ddd") (λ f. shift_register_row Ror f.d f.m)
-
 abbrev pub data_low_rows : List Row
 data_low_rows =
-    and_register_t1 ∷ eor_register_t1 ∷ lsl_register_t1 ∷ lsr_register_t1 ∷ asr_register_t1 ∷ adc_register_t1 ∷
-    sbc_register_t1 ∷ ror_register_t1 ∷ []
-
-abbrev pub tst_register_t1 : Row
-tst_register_t1 = row (codes "010000 1000 mmm ddd") (λ f. compare_registers_row Test f.d f.m)
--- RSB (immediate), encoding T1: 0 less the register
-abbrev pub rsb_immediate_t1 : Row
-rsb_immediate_t1 = row (codes "010000 1001 mmm ddd") (λ f. data_number_row ReverseSubtract f.d f.m 0)
-abbrev pub cmp_register_t1 : Row
-cmp_register_t1 = row (codes "010000 1010 mmm ddd") (λ f. compare_registers_row Compare f.d f.m)
-abbrev pub cmn_register_t1 : Row
-cmn_register_t1 = row (codes "010000 1011 mmm ddd") (λ f. compare_registers_row CompareNegative f.d f.m)
-abbrev pub orr_register_t1 : Row
-orr_register_t1 = row (codes "010000 1100 mmm ddd") (λ f. data_registers_row Or f.d f.d f.m)
-abbrev pub mul_t1 : Row
-mul_t1 = row (codes "010000 1101 mmm ddd") (λ f. multiply_row f.d f.m)
-abbrev pub bic_register_t1 : Row
-bic_register_t1 = row (codes "010000 1110 mmm ddd") (λ f. data_registers_row BitClear f.d f.d f.m)
-abbrev pub mvn_register_t1 : Row
-mvn_register_t1 = row (codes "010000 1111 mmm ddd") (λ f. move_not_row f.d f.m)
+    row (codes "010000 0000 mmm ddd") (λ f. data_registers_row And f.d f.d f.m) ∷  -- AND (register), T1
+    row (codes "010000 0001 mmm ddd") (λ f. data_registers_row ExclusiveOr f.d f.d f.m) ∷  -- EOR (register), T1
+    row (codes "010000 0010 mmm ddd") (λ f. shift_register_row Lsl f.d f.m) ∷  -- LSL (register), T1
+    row (codes "010000 0011 mmm ddd") (λ f. shift_register_row Lsr f.d f.m) ∷  -- LSR (register), T1
+    row (codes "010000 0100 mmm ddd") (λ f. shift_register_row Asr f.d f.m) ∷  -- ASR (register), T1
+    row (codes "010000 0101 mmm ddd") (λ f. data_registers_row AddWithCarry f.d f.d f.m) ∷  -- ADC (register), T1
+    row (codes "010000 0110 mmm ddd") (λ f. data_registers_row SubtractWithCarry f.d f.d f.m) ∷  -- SBC (register), T1
+    row (codes "010000 0111 mmm ddd") (λ f. shift_register_row Ror f.d f.m) ∷  -- ROR (register), T1
+    []
 
 abbrev pub data_high_rows : List Row
 data_high_rows =
-    tst_register_t1 ∷ rsb_immediate_t1 ∷ cmp_register_t1 ∷ cmn_register_t1 ∷ orr_register_t1 ∷ mul_t1 ∷
-    bic_register_t1 ∷ mvn_register_t1 ∷ []
+    row (codes "010000 1000 mmm ddd") (λ f. compare_registers_row Test f.d f.m) ∷  -- TST (register), T1
+    -- RSB (immediate), T1: 0 less the register
+    row (codes "010000 1001 mmm ddd") (λ f. data_number_row ReverseSubtract f.d f.m 0) ∷
+    row (codes "010000 1010 mmm ddd") (λ f. compare_registers_row Compare f.d f.m) ∷  -- CMP (register), T1
+    row (codes "010000 1011 mmm ddd") (λ f. compare_registers_row CompareNegative f.d f.m) ∷  -- CMN (register), T1
+    row (codes "010000 1100 mmm ddd") (λ f. data_registers_row Or f.d f.d f.m) ∷  -- ORR (register), T1
+    row (codes "010000 1101 mmm ddd") (λ f. multiply_row f.d f.m) ∷  -- MUL, T1
+    row (codes "010000 1110 mmm ddd") (λ f. data_registers_row BitClear f.d f.d f.m) ∷  -- BIC (register), T1
+    row (codes "010000 1111 mmm ddd") (λ f. move_not_row f.d f.m) ∷  -- MVN (register), T1
+    []

@@ -76,54 +76,29 @@ load_list_row n list =
 
 -- ---- the rows: at the PC or at the sum of two registers, at a register and an offset, of several registers
 
-abbrev pub ldr_literal_t1 : Row
-ldr_literal_t1 = row (codes "01001 ttt iiiiiiii") (λ f. load_literal_word_row f.t f.i)
-abbrev pub str_register_t1 : Row
-str_register_t1 = row (codes "0101 000 mmm nnn ttt") (λ f. store_register_row Word f.t f.n f.m)
-abbrev pub strh_register_t1 : Row
-strh_register_t1 = row (codes "0101 001 mmm nnn ttt") (λ f. store_register_row Halfword f.t f.n f.m)
-abbrev pub strb_register_t1 : Row
-strb_register_t1 = row (codes "0101 010 mmm nnn ttt") (λ f. store_register_row Byte f.t f.n f.m)
-abbrev pub ldrsb_register_t1 : Row
-ldrsb_register_t1 = row (codes "0101 011 mmm nnn ttt") (λ f. load_register_row Byte true f.t f.n f.m)
-abbrev pub ldr_register_t1 : Row
-ldr_register_t1 = row (codes "0101 100 mmm nnn ttt") (λ f. load_register_row Word false f.t f.n f.m)
-abbrev pub ldrh_register_t1 : Row
-ldrh_register_t1 = row (codes "0101 101 mmm nnn ttt") (λ f. load_register_row Halfword false f.t f.n f.m)
-abbrev pub ldrb_register_t1 : Row
-ldrb_register_t1 = row (codes "0101 110 mmm nnn ttt") (λ f. load_register_row Byte false f.t f.n f.m)
-abbrev pub ldrsh_register_t1 : Row
-ldrsh_register_t1 = row (codes "0101 111 mmm nnn ttt") (λ f. load_register_row Halfword true f.t f.n f.m)
-
 abbrev pub literal_and_register_rows : List Row
 literal_and_register_rows =
-    ldr_literal_t1 ∷ str_register_t1 ∷ strh_register_t1 ∷ strb_register_t1 ∷ ldrsb_register_t1 ∷ ldr_register_t1 ∷
-    ldrh_register_t1 ∷ ldrb_register_t1 ∷ ldrsh_register_t1 ∷ []
-
-abbrev pub str_immediate_t1 : Row
-str_immediate_t1 = row (codes "0110 0 iiiii nnn ttt") (λ f. store_number_row Word f.t f.n (f.i * 4))
-abbrev pub ldr_immediate_t1 : Row
-ldr_immediate_t1 = row (codes "0110 1 iiiii nnn ttt") (λ f. load_number_row Word f.t f.n (f.i * 4))
-abbrev pub strb_immediate_t1 : Row
-strb_immediate_t1 = row (codes "0111 0 iiiii nnn ttt") (λ f. store_number_row Byte f.t f.n f.i)
-abbrev pub ldrb_immediate_t1 : Row
-ldrb_immediate_t1 = row (codes "0111 1 iiiii nnn ttt") (λ f. load_number_row Byte f.t f.n f.i)
-abbrev pub strh_immediate_t1 : Row
-strh_immediate_t1 = row (codes "1000 0 iiiii nnn ttt") (λ f. store_number_row Halfword f.t f.n (f.i * 2))
-abbrev pub ldrh_immediate_t1 : Row
-ldrh_immediate_t1 = row (codes "1000 1 iiiii nnn ttt") (λ f. load_number_row Halfword f.t f.n (f.i * 2))
--- STR (immediate), encoding T2: at SP
-abbrev pub str_immediate_t2 : Row
-str_immediate_t2 = row (codes "1001 0 ttt iiiiiiii") (λ f. store_number_row Word f.t 13 (f.i * 4))
--- LDR (immediate), encoding T2: at SP
-abbrev pub ldr_immediate_t2 : Row
-ldr_immediate_t2 = row (codes "1001 1 ttt iiiiiiii") (λ f. load_number_row Word f.t 13 (f.i * 4))
-abbrev pub stm_t1 : Row
-stm_t1 = row (codes "11000 nnn llllllll") (λ f. store_list_row f.n f.l)
-abbrev pub ldm_t1 : Row
-ldm_t1 = row (codes "11001 nnn llllllll") (λ f. load_list_row f.n f.l)
+    row (codes "01001 ttt iiiiiiii") (λ f. load_literal_word_row f.t f.i) ∷  -- LDR (literal), T1
+    row (codes "0101 000 mmm nnn ttt") (λ f. store_register_row Word f.t f.n f.m) ∷  -- STR (register), T1
+    row (codes "0101 001 mmm nnn ttt") (λ f. store_register_row Halfword f.t f.n f.m) ∷  -- STRH (register), T1
+    row (codes "0101 010 mmm nnn ttt") (λ f. store_register_row Byte f.t f.n f.m) ∷  -- STRB (register), T1
+    row (codes "0101 011 mmm nnn ttt") (λ f. load_register_row Byte true f.t f.n f.m) ∷  -- LDRSB (register), T1
+    row (codes "0101 100 mmm nnn ttt") (λ f. load_register_row Word false f.t f.n f.m) ∷  -- LDR (register), T1
+    row (codes "0101 101 mmm nnn ttt") (λ f. load_register_row Halfword false f.t f.n f.m) ∷  -- LDRH (register), T1
+    row (codes "0101 110 mmm nnn ttt") (λ f. load_register_row Byte false f.t f.n f.m) ∷  -- LDRB (register), T1
+    row (codes "0101 111 mmm nnn ttt") (λ f. load_register_row Halfword true f.t f.n f.m) ∷  -- LDRSH (register), T1
+    []
 
 abbrev pub immediate_and_list_rows : List Row
 immediate_and_list_rows =
-    str_immediate_t1 ∷ ldr_immediate_t1 ∷ strb_immediate_t1 ∷ ldrb_immediate_t1 ∷ strh_immediate_t1 ∷
-    ldrh_immediate_t1 ∷ str_immediate_t2 ∷ ldr_immediate_t2 ∷ stm_t1 ∷ ldm_t1 ∷ []
+    row (codes "0110 0 iiiii nnn ttt") (λ f. store_number_row Word f.t f.n (f.i * 4)) ∷  -- STR (immediate), T1
+    row (codes "0110 1 iiiii nnn ttt") (λ f. load_number_row Word f.t f.n (f.i * 4)) ∷  -- LDR (immediate), T1
+    row (codes "0111 0 iiiii nnn ttt") (λ f. store_number_row Byte f.t f.n f.i) ∷  -- STRB (immediate), T1
+    row (codes "0111 1 iiiii nnn ttt") (λ f. load_number_row Byte f.t f.n f.i) ∷  -- LDRB (immediate), T1
+    row (codes "1000 0 iiiii nnn ttt") (λ f. store_number_row Halfword f.t f.n (f.i * 2)) ∷  -- STRH (immediate), T1
+    row (codes "1000 1 iiiii nnn ttt") (λ f. load_number_row Halfword f.t f.n (f.i * 2)) ∷  -- LDRH (immediate), T1
+    row (codes "1001 0 ttt iiiiiiii") (λ f. store_number_row Word f.t 13 (f.i * 4)) ∷  -- STR (immediate), T2: at SP
+    row (codes "1001 1 ttt iiiiiiii") (λ f. load_number_row Word f.t 13 (f.i * 4)) ∷  -- LDR (immediate), T2: at SP
+    row (codes "11000 nnn llllllll") (λ f. store_list_row f.n f.l) ∷  -- STM, T1
+    row (codes "11001 nnn llllllll") (λ f. load_list_row f.n f.l) ∷  -- LDM, T1
+    []

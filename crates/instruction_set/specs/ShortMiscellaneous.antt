@@ -93,55 +93,35 @@ if_then_row condition mask =
 
 -- ---- the rows: those that compute, then those that load, store, branch and control
 
-abbrev pub adr_t1 : Row
-adr_t1 = row (codes "10100 ddd iiiiiiii") (λ f. address_row f.d f.i)
--- ADD (SP plus immediate), encoding T1
-abbrev pub add_sp_immediate_t1 : Row
-add_sp_immediate_t1 = row (codes "10101 ddd iiiiiiii") (λ f. sp_number_row Add f.d f.i)
--- ADD (SP plus immediate), encoding T2
-abbrev pub add_sp_immediate_t2 : Row
-add_sp_immediate_t2 = row (codes "1011 0000 0 iiiiiii") (λ f. sp_number_row Add 13 f.i)
--- SUB (SP minus immediate), encoding T1
-abbrev pub sub_sp_immediate_t1 : Row
-sub_sp_immediate_t1 = row (codes "1011 0000 1 iiiiiii") (λ f. sp_number_row Subtract 13 f.i)
-abbrev pub sxth_t1 : Row
-sxth_t1 = row (codes "1011 0010 00 mmm ddd") (λ f. extend_row true Halfword f.d f.m)
-abbrev pub sxtb_t1 : Row
-sxtb_t1 = row (codes "1011 0010 01 mmm ddd") (λ f. extend_row true Byte f.d f.m)
-abbrev pub uxth_t1 : Row
-uxth_t1 = row (codes "1011 0010 10 mmm ddd") (λ f. extend_row false Halfword f.d f.m)
-abbrev pub uxtb_t1 : Row
-uxtb_t1 = row (codes "1011 0010 11 mmm ddd") (λ f. extend_row false Byte f.d f.m)
-abbrev pub rev_t1 : Row
-rev_t1 = row (codes "1011 1010 00 mmm ddd") (λ f. rearrange_row ReverseWord f.d f.m)
-abbrev pub rev16_t1 : Row
-rev16_t1 = row (codes "1011 1010 01 mmm ddd") (λ f. rearrange_row ReverseHalfwords f.d f.m)
-abbrev pub revsh_t1 : Row
-revsh_t1 = row (codes "1011 1010 11 mmm ddd") (λ f. rearrange_row ReverseSignedHalfword f.d f.m)
-
 abbrev pub adjusting_rows : List Row
 adjusting_rows =
-    adr_t1 ∷ add_sp_immediate_t1 ∷ add_sp_immediate_t2 ∷ sub_sp_immediate_t1 ∷ sxth_t1 ∷ sxtb_t1 ∷ uxth_t1 ∷ uxtb_t1 ∷
-    rev_t1 ∷ rev16_t1 ∷ revsh_t1 ∷ []
+    row (codes "10100 ddd iiiiiiii") (λ f. address_row f.d f.i) ∷  -- ADR, T1
+    row (codes "10101 ddd iiiiiiii") (λ f. sp_number_row Add f.d f.i) ∷  -- ADD (SP plus immediate), T1
+    row (codes "1011 0000 0 iiiiiii") (λ f. sp_number_row Add 13 f.i) ∷  -- ADD (SP plus immediate), T2
+    row (codes "1011 0000 1 iiiiiii") (λ f. sp_number_row Subtract 13 f.i) ∷  -- SUB (SP minus immediate), T1
+    row (codes "1011 0010 00 mmm ddd") (λ f. extend_row true Halfword f.d f.m) ∷  -- SXTH, T1
+    row (codes "1011 0010 01 mmm ddd") (λ f. extend_row true Byte f.d f.m) ∷  -- SXTB, T1
+    row (codes "1011 0010 10 mmm ddd") (λ f. extend_row false Halfword f.d f.m) ∷  -- UXTH, T1
+    row (codes "1011 0010 11 mmm ddd") (λ f. extend_row false Byte f.d f.m) ∷  -- UXTB, T1
+    row (codes "1011 1010 00 mmm ddd") (λ f. rearrange_row ReverseWord f.d f.m) ∷  -- REV, T1
+    row (codes "1011 1010 01 mmm ddd") (λ f. rearrange_row ReverseHalfwords f.d f.m) ∷  -- REV16, T1
+    row (codes "1011 1010 11 mmm ddd") (λ f. rearrange_row ReverseSignedHalfword f.d f.m) ∷  -- REVSH, T1
+    []
 
--- CBZ and CBNZ, encoding T1
-abbrev pub cbz_t1 : Row
-cbz_t1 = row (codes "1011 p 0 i 1 iiiii nnn") (λ f. compare_and_branch_row (f.p == 1) f.i f.n)
-abbrev pub push_t1 : Row
-push_t1 = row (codes "1011 0 10 M llllllll") (λ f. push_row f.M f.l)
-abbrev pub pop_t1 : Row
-pop_t1 = row (codes "1011 1 10 P llllllll") (λ f. pop_row f.P f.l)
-abbrev pub cps_t1 : Row
-cps_t1 = row (codes "1011 0110 011 e z z I F") (λ f. change_state_row (f.e == 1) (f.I == 1) (f.F == 1))
-abbrev pub bkpt_t1 : Row
-bkpt_t1 = row (codes "1011 1110 iiiiiiii") (λ f. breakpoint_row f.i)
 -- The hints of 16 bits, encoding T1
 abbrev pub nop_t1 : Row
 nop_t1 = row (codes "1011 1111 hhhh 0000") (λ f. short (System (Hint (hint_of f.h))))
+
 -- IT, encoding T1; with the mask 0000 it is a hint
 abbrev pub it_t1 : Row
 it_t1 = row_but (codes "1011 1111 cccc kkkk") (codes "xxxx xxxx xxxx 0000" ∷ []) (λ f. if_then_row f.c f.k)
 
 abbrev pub controlling_rows : List Row
 controlling_rows =
-    cbz_t1 ∷ push_t1 ∷ pop_t1 ∷ cps_t1 ∷ bkpt_t1 ∷ nop_t1 ∷ it_t1 ∷ []
+    row (codes "1011 p 0 i 1 iiiii nnn") (λ f. compare_and_branch_row (f.p == 1) f.i f.n) ∷  -- CBZ and CBNZ, T1
+    row (codes "1011 0 10 M llllllll") (λ f. push_row f.M f.l) ∷  -- PUSH, T1
+    row (codes "1011 1 10 P llllllll") (λ f. pop_row f.P f.l) ∷  -- POP, T1
+    row (codes "1011 0110 011 e z z I F") (λ f. change_state_row (f.e == 1) (f.I == 1) (f.F == 1)) ∷  -- CPS, T1
+    row (codes "1011 1110 iiiiiiii") (λ f. breakpoint_row f.i) ∷  -- BKPT, T1
+    nop_t1 ∷ it_t1 ∷
+    []

@@ -80,35 +80,25 @@ compare_number_row n value =
 -- MOV (register), encoding T2: LSL (immediate) by 0, which sets flags and may not be in an IT block
 abbrev pub mov_register_t2 : Row
 mov_register_t2 = row (codes "000 00 00000 mmm ddd") (λ f. move_low_row f.d f.m)
+
 -- LSL (immediate), encoding T1; by 00000 it is MOV
 abbrev pub lsl_immediate_t1 : Row
 lsl_immediate_t1 =
     row_but (codes "000 00 iiiii mmm ddd")
     (codes "xxx xx 00000 xxx xxx" ∷ [])
     (λ f. shift_number_row 0 f.i f.d f.m)
-abbrev pub lsr_immediate_t1 : Row
-lsr_immediate_t1 = row (codes "000 01 iiiii mmm ddd") (λ f. shift_number_row 1 f.i f.d f.m)
-abbrev pub asr_immediate_t1 : Row
-asr_immediate_t1 = row (codes "000 10 iiiii mmm ddd") (λ f. shift_number_row 2 f.i f.d f.m)
-abbrev pub add_register_t1 : Row
-add_register_t1 = row (codes "000 11 0 0 mmm nnn ddd") (λ f. data_registers_row Add f.d f.n f.m)
-abbrev pub sub_register_t1 : Row
-sub_register_t1 = row (codes "000 11 0 1 mmm nnn ddd") (λ f. data_registers_row Subtract f.d f.n f.m)
-abbrev pub add_immediate_t1 : Row
-add_immediate_t1 = row (codes "000 11 1 0 iii nnn ddd") (λ f. data_number_row Add f.d f.n f.i)
-abbrev pub sub_immediate_t1 : Row
-sub_immediate_t1 = row (codes "000 11 1 1 iii nnn ddd") (λ f. data_number_row Subtract f.d f.n f.i)
-abbrev pub mov_immediate_t1 : Row
-mov_immediate_t1 = row (codes "001 00 ddd iiiiiiii") (λ f. move_number_row f.d f.i)
-abbrev pub cmp_immediate_t1 : Row
-cmp_immediate_t1 = row (codes "001 01 nnn iiiiiiii") (λ f. compare_number_row f.n f.i)
-abbrev pub add_immediate_t2 : Row
-add_immediate_t2 = row (codes "001 10 ddd iiiiiiii") (λ f. data_number_row Add f.d f.d f.i)
-abbrev pub sub_immediate_t2 : Row
-sub_immediate_t2 = row (codes "001 11 ddd iiiiiiii") (λ f. data_number_row Subtract f.d f.d f.i)
 
 abbrev pub shifts_and_moves : List Row
 shifts_and_moves =
-    mov_register_t2 ∷ lsl_immediate_t1 ∷ lsr_immediate_t1 ∷ asr_immediate_t1 ∷ add_register_t1 ∷ sub_register_t1 ∷
-    add_immediate_t1 ∷ sub_immediate_t1 ∷ mov_immediate_t1 ∷ cmp_immediate_t1 ∷ add_immediate_t2 ∷ sub_immediate_t2 ∷
+    mov_register_t2 ∷ lsl_immediate_t1 ∷
+    row (codes "000 01 iiiii mmm ddd") (λ f. shift_number_row 1 f.i f.d f.m) ∷  -- LSR (immediate), T1
+    row (codes "000 10 iiiii mmm ddd") (λ f. shift_number_row 2 f.i f.d f.m) ∷  -- ASR (immediate), T1
+    row (codes "000 11 0 0 mmm nnn ddd") (λ f. data_registers_row Add f.d f.n f.m) ∷  -- ADD (register), T1
+    row (codes "000 11 0 1 mmm nnn ddd") (λ f. data_registers_row Subtract f.d f.n f.m) ∷  -- SUB (register), T1
+    row (codes "000 11 1 0 iii nnn ddd") (λ f. data_number_row Add f.d f.n f.i) ∷  -- ADD (immediate), T1
+    row (codes "000 11 1 1 iii nnn ddd") (λ f. data_number_row Subtract f.d f.n f.i) ∷  -- SUB (immediate), T1
+    row (codes "001 00 ddd iiiiiiii") (λ f. move_number_row f.d f.i) ∷  -- MOV (immediate), T1
+    row (codes "001 01 nnn iiiiiiii") (λ f. compare_number_row f.n f.i) ∷  -- CMP (immediate), T1
+    row (codes "001 10 ddd iiiiiiii") (λ f. data_number_row Add f.d f.d f.i) ∷  -- ADD (immediate), T2
+    row (codes "001 11 ddd iiiiiiii") (λ f. data_number_row Subtract f.d f.d f.i) ∷  -- SUB (immediate), T2
     []

@@ -58,17 +58,11 @@ branch_link_exchange_row m =
 
 -- ---- the rows
 
-abbrev pub add_register_t2 : Row
-add_register_t2 = row (codes "010001 00 d mmmm ddd") (λ f. add_high_row f.d f.m)
-abbrev pub cmp_register_t2 : Row
-cmp_register_t2 = row (codes "010001 01 n mmmm nnn") (λ f. compare_high_row f.n f.m)
-abbrev pub mov_register_t1 : Row
-mov_register_t1 = row (codes "010001 10 d mmmm ddd") (λ f. move_high_row f.d f.m)
-abbrev pub bx_t1 : Row
-bx_t1 = row (codes "010001 11 0 mmmm zzz") (λ f. branch_exchange_row f.m)
-abbrev pub blx_register_t1 : Row
-blx_register_t1 = row (codes "010001 11 1 mmmm zzz") (λ f. branch_link_exchange_row f.m)
-
 abbrev pub special_rows : List Row
 special_rows =
-    add_register_t2 ∷ cmp_register_t2 ∷ mov_register_t1 ∷ bx_t1 ∷ blx_register_t1 ∷ []
+    row (codes "010001 00 d mmmm ddd") (λ f. add_high_row f.d f.m) ∷  -- ADD (register), T2
+    row (codes "010001 01 n mmmm nnn") (λ f. compare_high_row f.n f.m) ∷  -- CMP (register), T2
+    row (codes "010001 10 d mmmm ddd") (λ f. move_high_row f.d f.m) ∷  -- MOV (register), T1
+    row (codes "010001 11 0 mmmm zzz") (λ f. branch_exchange_row f.m) ∷  -- BX, T1
+    row (codes "010001 11 1 mmmm zzz") (λ f. branch_link_exchange_row f.m) ∷  -- BLX (register), T1
+    []

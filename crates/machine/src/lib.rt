@@ -22,8 +22,7 @@ pub use access::{
     SysTickState,
 };
 pub use board::{Board, InterruptNumber, ScriptedEvent, Signal};
-pub use decode::DecodeEachTime;
-pub use decode::BoardDecodeTable;
+pub use decode::{BoardDecodeTable, DecodeEachTime};
 pub use machine::{Fast, Machine, RunError, Slow};
 pub use mpu_table::{KeptDecisions, Table};
 pub use next_step::is_instruction;

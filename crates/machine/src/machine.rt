@@ -36,8 +36,7 @@ use access::{
     SysTickState,
 };
 use board::Board;
-use decode::DecodeEachTime;
-use decode::BoardDecodeTable;
+use decode::{BoardDecodeTable, DecodeEachTime};
 use elf::Image;
 use mpu::MpuRegs;
 use mpu_table::{KeptDecisions, Table};

@@ -1,7 +1,7 @@
 //! Lists of accesses, and of what they read.
 
-use platform::bounded::Bounded;
 use platform::access::{MAX_REQUESTS, Request};
+use platform::bounded::Bounded;
 
 /// The accesses of an instruction, or of a frame, in their order.
 pub type Requests = Bounded<Request, MAX_REQUESTS>;

@@ -7,8 +7,8 @@ ghost use Rattle.survey.specs.Timeline.{with_accessed_mark, with_column, with_ha
 
 use crate::mark::{MAX_LANES, Mark};
 use crate::step_start::StepStart;
-use platform::bounded::Bounded;
 use platform::access::DecidedAccess;
+use platform::bounded::Bounded;
 use std::alloc::{AllocError, Global};
 use std::marker::Model;
 

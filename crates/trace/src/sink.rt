@@ -7,9 +7,9 @@ ghost use Rattle.reference.specs.LoadStore.{fetch_at};
 ghost use Rattle.trace.specs.Emission.{Emission, with_emitted};
 
 use crate::line_end::FetchEnd;
-use platform::bounded::Bounded;
 use instruction_set::size::Size;
 use platform::access::{Access, DecidedAccess, Kind};
+use platform::bounded::Bounded;
 use platform::event::{Event, EventKind, MAX_EVENTS};
 
 /// What takes the events of a step, one by one. A contract sees the events that it has taken so far.

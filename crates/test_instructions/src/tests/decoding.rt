@@ -3,8 +3,7 @@
 ghost use Rattle.std.specs.Prelude.{◌<◌};
 
 use assembled::{COPROCESSORS, LONG_CONTROL, LONG_DATA, LONG_OTHERS, SHORT, UNDEFINED};
-use decode::{DecodeEachTime, Decoded, KeptCode, decode, is_long};
-use decode::BoardDecodeTable;
+use decode::{BoardDecodeTable, DecodeEachTime, Decoded, KeptCode, decode, is_long};
 use operands::all_operands;
 use std::alloc::Global;
 use std::test::*;

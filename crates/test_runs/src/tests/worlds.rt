@@ -10,8 +10,8 @@ use elf::load;
 use machine::{Decider, Exceptions, Fast, KeptCode, Machine, Slow, SysTickState};
 use std::alloc::Global;
 use std::test::*;
-use test_tables::check_between;
 use survey_run::{WorldCount, world_run};
+use test_tables::check_between;
 
 /// Cases. The code of an image with two worlds sets region 1 for all of flash, region 2 for a stack of 256 bytes,
 /// region 0 for 32 bytes of RAM, and then MPU_CTRL and CONTROL.nPRIV:

@@ -6,8 +6,7 @@ use machine::{Board, Fast, SMALL_BOARD, Stop};
 use platform::access::{Kind, Rule};
 use std::test::*;
 use survey::{Mark, Survey, Touch};
-use survey_run::survey_run;
-use survey_run::WorldCount;
+use survey_run::{WorldCount, survey_run};
 
 /// An ELF file with this code from address 8 on, which begins there:
 ///
