@@ -11,8 +11,8 @@ folder=$(mktemp -d)
 trap 'rm -rf "$folder"' EXIT
 # The program that is timed stands in a repository of its own, on copies of the crates and of what was proved of them.
 mkdir -p "$folder/top/crates/rate/src"
-for name in instruction_set reference regs bounded trace mpu \
-    encodings kept_code decode_short decode_long_data decode_long_others decode; do
+for name in instruction_set devices platform reference regs data_processing micro_data micro trace mpu \
+    encodings decode_short decode_long decode; do
     cp -r "$top/crates/$name" "$folder/top/crates/$name"
     grep "^$name:" "$top/crates.txt" >>"$folder/top/crates.txt"
 done

@@ -68,7 +68,7 @@ def chapters():
 
 def rows(width):
     """Returns how many rows of the instruction set are defined, of a width, `Short` or `Long`."""
-    return matches(r"^.*\b\w+ : Row$", f"crates/instruction_set/specs/{width}*.antt")
+    return matches(r"\brow(?:_but)? \(codes ", f"crates/instruction_set/specs/{width}*.antt")
 
 
 def overlaps(name):
