@@ -1,5 +1,5 @@
 -- The faults that were recorded: the first 64 that differ, and the number of all.
-use Rattle.std.specs.Prelude.{ℕ, ◌+◌, ◌-◌, Bool, true, false, ◌&&◌, ◌==◌, nat_lt, if◌then◌else◌, List, Option}
+use Rattle.std.specs.Prelude.{ℕ, ◌+◌, ◌-◌, Bool, true, false, not, ◌&&◌, ◌==◌, nat_lt, if◌then◌else◌, List, Option}
 use Rattle.std.specs.Prelude.{Some, None, slice_set, slice_index_or}
 use Rattle.instruction_set.specs.Sizes.{bytes_in}
 use Rattle.platform.specs.declared.access.Cause.{Cause}
@@ -14,6 +14,8 @@ pub record Faults : Type 0 where
   pub used : ℕ
   -- how many faults were recorded
   pub number : ℕ
+  -- whether a fault came for which there was no row
+  pub missed : Bool
   -- the access that the step that is being counted had refused since its last fault, if it had one refused
   pub refused : Option DecidedAccess
 
@@ -56,19 +58,20 @@ with_decided f d = with_outcome f d d.refused
 abbrev pub last_row : Faults → Fault → Fault
 last_row f other = slice_index_or f.rows (f.used - 1) other
 
--- whether a fault is that of the last row, the tick apart
+-- whether a fault is the one before it again, the tick apart: that one has the last row, unless a fault had none
 abbrev pub repeats : Faults → Fault → Bool
-repeats f fault = nat_lt 0 f.used && is_same (last_row f fault) fault
+repeats f fault = (not f.missed && nat_lt 0 f.used) && is_same (last_row f fault) fault
 
 -- the last row counts once more
 abbrev pub repeated : Faults → Fault → Faults
 repeated f last =
     record f { rows = slice_set f.rows (f.used - 1) (record last { times = one_more last.times }) }
 
--- a new row, where there is a place for it
+-- a new row, where there is a place for it; without one the fault has no row, and none counts from then on
 abbrev pub appended : Faults → Fault → Faults
 appended f fault =
-    if nat_lt f.used max_rows then record f { rows = slice_set f.rows f.used fault; used = f.used + 1 } else f
+    if nat_lt f.used max_rows then record f { rows = slice_set f.rows f.used fault; used = f.used + 1 }
+    else record f { missed = true }
 
 -- with one more fault, counted
 abbrev pub with_row : Faults → Fault → Faults

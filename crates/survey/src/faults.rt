@@ -1,6 +1,6 @@
 //! The faults that were recorded.
 
-ghost use Rattle.std.specs.Prelude.{◌≡◌, ◌<◌, ◌≤◌, length, take, IfOk, None, option_copied};
+ghost use Rattle.std.specs.Prelude.{◌≡◌, ◌<◌, ◌≤◌, length, take, IfOk, None, false, option_copied};
 ghost use Rattle.survey.specs.Faults.{is_same, is_same_access, is_same_record, is_same_refused, with_any_fault};
 ghost use Rattle.survey.specs.Faults.{with_decided, with_end, with_fault, with_row};
 
@@ -20,6 +20,8 @@ pub struct Faults {
     rows: Vec<Fault>,
     used: usize,
     number: u64,
+    /// Whether a fault came for which there was no row.
+    missed: bool,
     /// The access that the step that is being counted had refused since its last fault.
     refused: Option<DecidedAccess>,
 }
@@ -30,7 +32,7 @@ impl Model for Faults {
 
     ghost Value = { FaultsView };
 
-    ghost view = { λ f. record { rows = f.rows.items; used = f.used; number = f.number; refused = f.refused } };
+    ghost view = { λ f. record { rows = f.rows.items; used = f.used; number = f.number; missed = f.missed; refused = f.refused } };
 
     ghost invariant = { λ f. (length f.rows.items ≡ 64) × (f.used ≤ 64) };
 }
@@ -40,6 +42,7 @@ impl Faults {
     pub fn new(alloc: Global) -> Result<Self, AllocError>
         ensures none { IfOk result (λ faults. faults.used ≡ 0) }
         ensures number { IfOk result (λ faults. faults.number ≡ 0) }
+        ensures missed { IfOk result (λ faults. faults.missed ≡ false) }
         ensures refused { IfOk result (λ faults. faults.refused ≡ None) }
     {
         let rows = vec![in alloc; Fault::default(); MAX_ROWS]?;
@@ -47,6 +50,7 @@ impl Faults {
             rows,
             used: 0,
             number: 0,
+            missed: false,
             refused: None,
         })
     }
@@ -109,20 +113,22 @@ impl Faults {
         self.refused = None;
     }
 
-    /// Counts a fault: in the last row where it repeats that one, otherwise in a new row where there is a
-    /// place for one.
+    /// Counts a fault: in the last row where it comes again at once, otherwise in a new row where there is a place for
+    /// one.
     fn count(&mut self, fault: &Fault)
         ensures { self.new ≡ with_row self.old fault.now }
     {
         self.number = self.number.saturating_add(1);
         self.refused = None;
         let used = self.used;
-        if used > 0 && is_same(&self.rows[used - 1], fault) {
+        if !self.missed && used > 0 && is_same(&self.rows[used - 1], fault) {
             let times = self.rows[used - 1].times;
             self.rows[used - 1].times = times.saturating_add(1);
         } else if used < MAX_ROWS {
             self.rows[used] = *fault;
             self.used = used + 1;
+        } else {
+            self.missed = true;
         }
     }
 }
