@@ -1,8 +1,13 @@
-//! The rows of the tests' tables. A table is a text, and each of its lines is a row: parts between
+//! The rows of the tests' tables. A table is a file (`tables`), or a text, of which each line is a row: parts between
 //! bars, each of words between blanks. Numbers are hexadecimal.
 #![tactic(auto)]
 
+mod outcome;
+mod tables;
+
+pub use outcome::{Outcome, first_difference, first_difference_of_bytes};
 use std::test::Fail;
+pub use tables::{Kinds, run_tables};
 
 /// What reads the rows of a table.
 pub trait Rows {
