@@ -2,12 +2,14 @@
 //! bars, each of words between blanks. Numbers are hexadecimal.
 #![tactic(auto)]
 
+mod answers;
 mod outcome;
 mod tables;
 
+pub use answers::{Lines, compared, rest, run_lines};
 pub use outcome::{Outcome, first_difference, first_difference_of_bytes};
 use std::test::Fail;
-pub use tables::{Kinds, run_tables};
+pub use tables::{Kinds, kind_of, run_tables};
 
 /// What reads the rows of a table.
 pub trait Rows {

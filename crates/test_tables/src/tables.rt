@@ -1,5 +1,5 @@
 //! Tables of rows in files. The table KIND/NAME is the file NAME.txt of the folder KIND. Rows have a blank line between
-//! them, and the first line of a row is its name. A line that begins with `# ` is a comment.
+//! them, or each line is a row, and the first line of a row is its name. A line that begins with `# ` is a comment.
 
 use super::outcome::Outcome;
 use std::process::ExitCode;
@@ -10,14 +10,24 @@ const USAGE: &str = "usage: TABLE.. | one TABLE NAME";
 
 /// What checks the rows of each kind of table.
 pub trait Kinds {
-    /// Compares what a row of a table of this kind wants with what comes. The row has its name in its first line, and a
+    /// Returns whether each line of a table, KIND/NAME, is a row.
+    fn has_line_rows(&self, _table: &str) -> bool {
+        false
+    }
+
+    /// Compares what a row of a table, KIND/NAME, wants with what comes. The row has its name in its first line, and a
     /// line feed after each line.
-    fn check(&mut self, kind: &str, row: &str) -> io::Result<Outcome>;
+    fn check(&mut self, table: &str, row: &str) -> io::Result<Outcome>;
 }
 
-/// Runs the tables that the program's arguments name, or by `one TABLE NAME` the rows of this name, and prints the rows
-/// that fail and how many hold. The status is 1 where a row fails or a table has none, and 2 where a call of the system
-/// fails.
+/// Returns the kind and the name of a table, KIND/NAME.
+pub fn kind_of(table: &str) -> (&str, &str) {
+    table.split_once('/').unwrap_or(("", table))
+}
+
+/// Runs the tables that the program's arguments name, or by `one TABLE NAME` the rows whose names begin so, and prints
+/// the rows that fail and how many hold. The status is 1 where a row fails or a table has none, and 2 where a call of
+/// the system fails.
 pub fn run_tables<K: Kinds>(rt: &HostRuntime, kinds: &mut K) -> ExitCode {
     match run_words(rt, kinds) {
         Ok(true) => ExitCode::SUCCESS,
@@ -92,14 +102,16 @@ impl<'a> Table<'a> {
         text: &str,
         kinds: &mut K,
     ) -> io::Result<()> {
+        let has_line_rows = kinds.has_line_rows(self.table);
         let mut row = String::new(rt.alloc());
         'lines: for line in text.lines() {
-            if line.is_empty() {
-                self.run_row(rt, row.as_str(), kinds)?;
-                row.clear();
-            } else if !is_comment(line) {
+            if !line.is_empty() && !is_comment(line) {
                 row.push_str(line)?;
                 row.push('\n')?;
+            }
+            if line.is_empty() || has_line_rows {
+                self.run_row(rt, row.as_str(), kinds)?;
+                row.clear();
             }
         }
         self.run_row(rt, row.as_str(), kinds)
@@ -110,17 +122,15 @@ impl<'a> Table<'a> {
         let Some(name) = row.lines().next() else {
             return Ok(());
         };
-        if self.only.is_some() && self.only != Some(name) {
+        if let Some(only) = self.only
+            && !name.starts_with(only)
+        {
             return Ok(());
         }
-        let kind = match self.table.split_once('/') {
-            Some((kind, _)) => kind,
-            None => "",
-        };
         let outcome = if name.trim().is_empty() {
             Outcome::Unreadable
         } else {
-            kinds.check(kind, row)?
+            kinds.check(self.table, row)?
         };
         if outcome.holds() {
             self.hold = self.hold.saturating_add(1);
