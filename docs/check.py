@@ -434,9 +434,9 @@ FORMATTERS = (["groff", "-ww", "-man", "-Tutf8", "-z", MANUAL_PAGE],
 
 
 def copies():
-    """Lists the files in crates/*/data that aren't what examples/, or else a crate before, has under the same name."""
+    """Lists the files in crates/*/data, but not in its folders, that aren't what examples/, or else a crate before, has under the same name."""
     originals = {os.path.basename(path): path for path in sorted(glob.glob(f"{TOP}/examples/**/*", recursive=True))}
-    for path in sorted(glob.glob(f"{TOP}/crates/*/data/*")):
+    for path in sorted(filter(os.path.isfile, glob.glob(f"{TOP}/crates/*/data/*"))):
         original = originals.setdefault(os.path.basename(path), path)
         if open(path, "rb").read() != open(original, "rb").read():
             yield f"{os.path.relpath(path, TOP)}: not what {os.path.relpath(original, TOP)} is"

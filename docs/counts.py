@@ -181,6 +181,22 @@ def cases(crate, modules, between="\n\n"):
     return sum(len(table.split(between)) for table in tables(crate, modules))
 
 
+def rows_of(crate, tables):
+    """Yields the lines of each row of a crate's tables in files, where a blank line separates two rows."""
+    for path in found(*(f"crates/{crate}/data/{table}.txt" for table in tables.split())):
+        text = "\n".join(line for line in text_of(path).split("\n") if line != "#" and not line.startswith("# "))
+        yield from (row.strip("\n").split("\n") for row in re.split(r"\n\n+", text) if row.strip("\n"))
+
+
+def row_count(crate, tables):
+    return len(list(rows_of(crate, tables)))
+
+
+def line_count(crate, tables):
+    """Returns how many rows the tables have whose rows are lines."""
+    return sum(len(lines) for lines in rows_of(crate, tables))
+
+
 def board_texts():
     lines = table_lines("test_parts", "boards:LINES")
     return lines + cases("test_parts", "boards:MORE_LINES boards:EVENTS boards:TEXTS", "\n---\n")
@@ -191,15 +207,10 @@ def constant(path, name):
     return int(re.search(rf"const {name}: \w+ = (\d+);", text_of(path))[1])
 
 
-AGREED = "short_data short_others long_data_first long_data_second long_others_first"
-AGREED += " long_others_second:LONG_OTHERS_SECOND"
-COMPUTING = "data_edges_fields data_edges_moves data_edges_products data_edges_sums"
-ENCODINGS = "SHORT LONG_DATA LONG_CONTROL LONG_OTHERS"
+AGREED = "case/short_data case/short_others case/long_data case/long_others"
+COMPUTING = "case/fields case/moves case/products case/sums"
+ENCODINGS = "decoding/short decoding/long_data decoding/long_control decoding/long_others"
 RUNS = "accesses exclusives handlers instructions special traces"
-
-
-def encodings(names):
-    return table_lines("test_instructions", " ".join(f"decoding/assembled:{name}" for name in names.split()))
 
 
 def mutations(folder):
@@ -240,16 +251,16 @@ COUNTS = {
     "long rows": lambda: rows("Long"),
     "short overlaps": lambda: overlaps("short_overlaps"),
     "long overlaps": lambda: overlaps("long_overlaps"),
-    "instructions": lambda: encodings(ENCODINGS),
-    "no instructions": lambda: encodings("UNDEFINED COPROCESSORS"),
-    "stopping encodings": lambda: table_lines("test_instructions", "decoding/stops"),
-    "agreed cases": lambda: cases("test_instructions", AGREED),
-    "special cases": lambda: cases("test_instructions", "long_others_second:SPECIAL_REGISTERS"),
-    "edges": lambda: cases("test_instructions", "edges " + COMPUTING),
-    "computing edges": lambda: cases("test_instructions", COMPUTING),
-    "other edges": lambda: cases("test_instructions", "edges"),
-    "edge stops": lambda: cases("test_instructions", "edge_stops"),
-    "register rows": lambda: table_lines("test_instructions", "registers"),
+    "instructions": lambda: line_count("instruction_rows", ENCODINGS),
+    "no instructions": lambda: line_count("instruction_rows", "decoding/undefined decoding/coprocessors"),
+    "stopping encodings": lambda: line_count("instruction_rows", "decoding/stops"),
+    "agreed cases": lambda: row_count("instruction_rows", AGREED),
+    "special cases": lambda: row_count("instruction_rows", "case/special_registers"),
+    "edges": lambda: row_count("instruction_rows", "case/edges " + COMPUTING),
+    "computing edges": lambda: row_count("instruction_rows", COMPUTING),
+    "other edges": lambda: row_count("instruction_rows", "case/edges"),
+    "edge stops": lambda: row_count("instruction_rows", "stop/edges"),
+    "register rows": lambda: line_count("instruction_rows", "registers/*"),
     "runs": lambda: cases("test_runs", RUNS),
     "device runs": lambda: cases("test_runs", "device_accesses device_lines:LINES"),
     "faults": lambda: cases("test_runs", "fault_registers:FAULTS"),
@@ -269,7 +280,7 @@ COUNTS = {
     "lines places": lambda: lines_of(spec("Places")),
 }
 
-for crate in ("test_instructions", "test_instructions/decoding", "test_runs", "test_parts", "test_parts/ticks"):
+for crate in ("test_runs", "test_parts", "test_parts/ticks"):
     COUNTS[f"tests {crate}"] = lambda crate=crate: tests(crate)
 for part in [*AUDIT_PARTS, "types"]:
     COUNTS[f"lines {part}"] = lambda part=part: audit_lines(part)
