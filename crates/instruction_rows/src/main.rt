@@ -1,6 +1,6 @@
-//! The tests of the crates that an instruction goes through, as tables of rows in `data`. Whole instructions, from their
-//! halfwords through `decode`, `plan` and `finish` to what they leave; what halfwords mean; instructions that are kept;
-//! the core registers.
+//! The tests of the crates that an instruction goes through, as tables of rows in `data`: whole instructions, from
+//! their halfwords through `decode`, `plan` and `finish` to what they leave; what halfwords mean; instructions that are
+//! kept; the core registers.
 #![tactic(auto)]
 
 use std::alloc::Global;
