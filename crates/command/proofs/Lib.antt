@@ -1,5 +1,6 @@
 mod Dumped
 mod Ends
+mod Missing
 mod Sent
 mod SessionEnds
 mod Waiting

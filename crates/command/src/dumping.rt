@@ -33,16 +33,17 @@ pub fn are_all_in_memory(machine: &Fast, dumps: &[Dump<'_>]) -> bool
     true
 }
 
-/// Returns whether all bytes of a dump are in memory.
-#[tactic(auto, unfolding(crate::specs::Dumping::are_in_memory))]
+/// Returns whether all bytes of a dump are in memory. Looks at no byte after the first that isn't.
+#[tactic(auto, using(crate::proofs::Missing::byte_is_missing), unfolding(crate::specs::Dumping::are_in_memory))]
 pub fn are_in_memory(machine: &Fast, dump: &Dump<'_>) -> bool
     ensures { result ≡ are_in_memory machine.now.state.bus.memory dump.now.address dump.now.length }
 {
-    let mut there = true;
     'bytes: for index in 0..dump.length {
-        there = there && machine.byte(dump.address.wrapping_add(index)).is_some();
+        if machine.byte(dump.address.wrapping_add(index)).is_none() {
+            return false;
+        }
     }
-    there
+    true
 }
 
 /// Returns the bytes of a dump.
