@@ -198,8 +198,8 @@ def line_count(crate, tables):
 
 
 def board_texts():
-    lines = table_lines("test_parts", "boards:LINES")
-    return lines + cases("test_parts", "boards:MORE_LINES boards:EVENTS boards:TEXTS", "\n---\n")
+    lines = line_count("test_parts", "boards/lines")
+    return lines + row_count("test_parts", "boards/more_lines boards/events boards/texts")
 
 
 def constant(path, name):
@@ -280,7 +280,7 @@ COUNTS = {
     "lines places": lambda: lines_of(spec("Places")),
 }
 
-for crate in ("test_runs", "test_parts", "test_parts/ticks"):
+for crate in ("test_runs", "test_parts"):
     COUNTS[f"tests {crate}"] = lambda crate=crate: tests(crate)
 for part in [*AUDIT_PARTS, "types"]:
     COUNTS[f"lines {part}"] = lambda part=part: audit_lines(part)
