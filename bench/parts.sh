@@ -23,5 +23,5 @@ head -c 4 /dev/zero >"$folder/four"
 clang --target=thumbv7m-none-eabi -mcpu=cortex-m3 -O2 -ffreestanding -c -o "$folder/mix.o" "$top/bench/mix.c" &&
     llvm-objdump -d "$folder/mix.o" >"$folder/listing" || : >"$folder/listing"
 python3 -B "$top/bench/parts.py" "$folder/top/crates/rate/out/rate" "$marm" \
-    "$top/examples/boards/small.toml" "$top/crates/test_firmware/data/board.toml" "$top/examples/firmware/crc32-loop.elf" \
+    "$top/examples/boards/small.toml" "$top/examples/firmware/board.toml" "$top/examples/firmware/crc32-loop.elf" \
     "$folder/listing" "$folder" "${1:-30000000}" "${2:-9}"

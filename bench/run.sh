@@ -11,7 +11,7 @@ marm=$("$top/marm" --proved)
 folder=$(mktemp -d)
 trap 'rm -rf "$folder"' EXIT
 # The program that runs images without a trace.
-(cd "$top/crates/test_firmware" && rt run -- data/board.toml) >"$folder/log" 2>&1 || { cat "$folder/log" >&2; exit 1; }
+(cd "$top/crates/test_firmware" && rt run -- data/small.toml) >"$folder/log" 2>&1 || { cat "$folder/log" >&2; exit 1; }
 gcc -O2 -o "$folder/format" "$top/bench/format.c"
 plugin=
 if command -v qemu-system-arm >"$folder/log" &&
@@ -22,6 +22,6 @@ else
     echo "without QEMU: qemu-system-arm or qemu-plugin.h isn't there"
 fi
 python3 -B "$top/bench/rounds.py" "$marm" "$top/crates/test_firmware/out/test_firmware" "$folder/format" \
-    "$plugin" "$top/crates/test_firmware/data/board.toml" "$top/examples/firmware/crc32-loop.elf" \
+    "$plugin" "$top/examples/firmware/board.toml" "$top/examples/firmware/crc32-loop.elf" \
     "$folder" "${1:-3000000}" "${2:-15}" "${@:3}"
 "$top/bench/parts.sh" "$((10 * ${1:-3000000}))" "${2:-9}"

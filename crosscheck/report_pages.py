@@ -174,11 +174,11 @@ def pictures(path):
 
 
 def main(marm, top, folder):
-    firmware = os.path.join(top, "crates/test_firmware/data")
-    kernels = [(name, f"{firmware}/{name}.elf", f"{top}/examples/kernels/{name}.toml", 20000)
+    examples = os.path.join(top, "examples")
+    kernels = [(name, f"{examples}/kernels/{name}.elf", f"{examples}/kernels/{name}.toml", 20000)
                for name in ("round_robin", "faults", "nested", "atomics", "mailbox", "overlap")]
-    programs = [(os.path.basename(path)[:-4], path, f"{firmware}/board.toml", 300000)
-                for path in (f"{top}/examples/firmware/crc32-loop.elf", f"{top}/examples/firmware/kit-hello-newlib.elf")
+    programs = [(os.path.basename(path)[:-4], path, f"{examples}/firmware/board.toml", 300000)
+                for path in (f"{examples}/firmware/crc32-loop.elf", f"{examples}/firmware/kit-hello-newlib.elf")
                 if os.path.exists(path)]
     failed = 0
     for name, image, board, steps in kernels + programs:

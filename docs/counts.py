@@ -224,7 +224,8 @@ def mutations(folder):
 # the programs of docs/FIRMWARE.md that CI runs, and all images whose bytes a page has
 PROGRAMS = "sort crc32 sha256 division print strings floats fields".split()
 KERNELS = "round_robin faults nested atomics mailbox overlap".split()
-IMAGES = {name: f"crates/test_firmware/data/{name}.elf" for name in PROGRAMS + KERNELS}
+IMAGES = {name: f"examples/firmware/{name}.elf" for name in PROGRAMS}
+IMAGES |= {name: f"examples/kernels/{name}.elf" for name in KERNELS}
 IMAGES["crc32-loop"] = "examples/firmware/crc32-loop.elf"
 IMAGES["in-turn"] = "examples/firmware/in-turn.elf"
 

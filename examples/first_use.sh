@@ -105,7 +105,7 @@ expect "a debug script" 0 has_lines "${words[@]}"
 # A trace of 2 MB: 40,000 steps of a program that takes no fewer than 50 bytes for one.
 wanted=$work/nothing
 note "no answer without proofs, since the output has more than 1 MiB" >"$work/err"
-read -ra words <<<"run --board crates/test_firmware/data/board.toml --steps 40000 examples/firmware/crc32-loop.elf"
+read -ra words <<<"run --board examples/firmware/board.toml --steps 40000 examples/firmware/crc32-loop.elf"
 expect "a trace of 2 MB" 125 cmp "${words[@]}"
 
 [ "$failed" = 0 ] && echo "first_use: all as expected"

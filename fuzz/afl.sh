@@ -16,10 +16,10 @@ shift $(($# > 0))
 folder=$(mktemp -d)
 cp "$("$top/marm" --proved)" "$folder/marm"
 gcc -O2 -o "$folder/target" "$top/fuzz/afl_target.c"
-image=$top/crates/test_firmware/data/round_robin.elf
+image=$top/examples/kernels/round_robin.elf
 board=$top/examples/kernels/round_robin.toml
 mkdir -p "$folder/seeds/image" "$folder/seeds/board" "$folder/seeds/session"
-cp "$top"/crates/test_firmware/data/{atomics,faults,nested,round_robin}.elf "$folder/seeds/image"
+cp "$top"/examples/kernels/{atomics,faults,nested,round_robin}.elf "$folder/seeds/image"
 cp "$top/examples/first.elf" "$folder/seeds/image"
 cp "$top"/examples/boards/*.toml "$top"/examples/kernels/*.toml "$folder/seeds/board"
 cp "$top/examples/kernels/task_b.txt" "$folder/seeds/session"

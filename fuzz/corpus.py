@@ -21,9 +21,10 @@ class Corpus:
         data = os.path.join(top, "crates", "test_firmware", "data")
         boards = os.path.join(top, "examples", "boards")
         kernels = os.path.join(top, "examples", "kernels")
-        firmware, small = content(os.path.join(data, "board.toml")), content(os.path.join(boards, "small.toml"))
+        programs = os.path.join(top, "examples", "firmware")
+        firmware, small = content(os.path.join(programs, "board.toml")), content(os.path.join(boards, "small.toml"))
         self.pairs = [(content(os.path.join(top, "examples", "first.elf")), small)]
-        self.pairs.append((content(os.path.join(top, "examples", "firmware", "crc32-loop.elf")), firmware))
+        self.pairs.append((content(os.path.join(programs, "crc32-loop.elf")), firmware))
         for path in sorted(glob.glob(os.path.join(data, "*.elf"))):
             name = os.path.splitext(os.path.basename(path))[0].removesuffix("_filled")
             own = os.path.join(kernels, name + ".toml")

@@ -11,13 +11,6 @@ from console import bytes_of
 MARM, NAMES = sys.argv[1], sys.argv[2:]
 STEPS = 20_000_000
 HERE = os.path.dirname(os.path.abspath(__file__))
-DATA = f"{HERE}/../../crates/test_firmware/data"
-
-
-def elf_of(name):
-    """The file of a program: CI's, or one of this folder."""
-    path = f"{DATA}/{name}.elf"
-    return path if os.path.exists(path) else f"{HERE}/{name}.elf"
 
 
 def text_of(name):
@@ -30,7 +23,7 @@ def text_of(name):
 
 def run(name):
     """What a program prints, how many steps it makes, and the trace's last line."""
-    words = [MARM, "run", "--board", f"{DATA}/board.toml", "--steps", str(STEPS), elf_of(name)]
+    words = [MARM, "run", "--board", f"{HERE}/board.toml", "--steps", str(STEPS), f"{HERE}/{name}.elf"]
     text, before, last = bytearray(), "0", "no trace"
     with subprocess.Popen(words, stdout=subprocess.PIPE, text=True) as marm:
         for line in marm.stdout:

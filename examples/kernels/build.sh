@@ -2,10 +2,10 @@
 # Builds the kernels for a Cortex-M3. Usage: examples/kernels/build.sh [FOLDER]
 #
 # CC is clang (with ld.lld) where it isn't set, or arm-none-eabi-gcc; CFLAGS has further options, as -g for a debugger.
-# FOLDER is crates/test_firmware/data where it isn't given, whose files CI runs. Files for CI are clang's, without CFLAGS.
+# FOLDER is this one where it isn't given, whose files gate.sh copies for CI. Those are clang's, without CFLAGS.
 set -euo pipefail
 here=$(cd "$(dirname "${BASH_SOURCE[0]}")" && pwd)
-folder=$(realpath "${1:-$here/../../crates/test_firmware/data}")
+folder=$(realpath "${1:-$here}")
 compiler=${CC:-clang}
 work=$(mktemp -d)
 trap 'rm -rf "$work"' EXIT

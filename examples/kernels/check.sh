@@ -8,7 +8,7 @@ set -euo pipefail
 here=$(cd "$(dirname "${BASH_SOURCE[0]}")" && pwd)
 top=$(cd "$here/../.." && pwd)
 marm=$("$top/marm" --proved)
-folder=${1:-$top/crates/test_firmware/data}
+folder=${1:-$here}
 work=$(mktemp -d)
 trap 'rm -rf "$work"' EXIT
 failed=0

@@ -12,9 +12,8 @@ import shutil
 import sys
 
 HERE = os.path.dirname(os.path.abspath(__file__))
-CRATES = os.path.join(HERE, "..", "..", "crates")
-BUILT = sys.argv[1] if len(sys.argv) > 1 else os.path.join(CRATES, "test_firmware", "data")
-PAGES = os.path.join(CRATES, "test_pages", "data")
+BUILT = sys.argv[1] if len(sys.argv) > 1 else HERE
+PAGES = os.path.join(HERE, "..", "..", "crates", "test_pages", "data")
 
 MARKED = "a&lt;b's"  # not every system that a clone is made on lets a file name have <, > or "
 TEXTS = {

@@ -13,8 +13,7 @@ import marm
 PACKAGE = Path(__file__).resolve().parents[1]
 REPOSITORY = PACKAGE.parent
 FIRMWARE = PACKAGE / "firmware"
-KERNELS = REPOSITORY / "crates" / "test_firmware" / "data"
-BOARDS = REPOSITORY / "examples" / "kernels"
+KERNELS = REPOSITORY / "examples" / "kernels"
 
 COUNTER_BOARD = marm.Board(flash_size=1024, ram_size=8192, lines=1)
 CHECKSUM_BOARD = marm.Board(flash_size=1024, ram_size=1024)
@@ -26,7 +25,7 @@ needs_program = unittest.skipUnless(has_program, "there is no program marm: set 
 
 def kernel(name: str, board: str = "") -> marm.Machine:
     """Returns a machine with a kernel of the repository, on its own board or on another kernel's."""
-    return marm.Machine(KERNELS / f"{name}.elf", BOARDS / f"{board or name}.toml")
+    return marm.Machine(KERNELS / f"{name}.elf", KERNELS / f"{board or name}.toml")
 
 
 def toy(slots: int = 4) -> marm.Machine:

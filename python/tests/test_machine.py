@@ -10,7 +10,7 @@ from typing import Callable, Union
 import marm
 
 from . import laws
-from .support import BOARDS, KERNELS, kernel, needs_program
+from .support import KERNELS, kernel, needs_program
 
 STORE = 2738  # the tick of task c's store to task a's memory
 
@@ -31,7 +31,7 @@ class RoundRobin(laws.Laws):
     def test_to_the_end(self) -> None:
         ran = self.m.run()
         self.assertEqual((ran.why, str(ran.stop), self.m.run(5).steps), ("stop", "breakpoint 0", 0))
-        self.assertEqual(ran.console, (BOARDS / "expected" / "round_robin.txt").read_bytes())
+        self.assertEqual(ran.console, (KERNELS / "expected" / "round_robin.txt").read_bytes())
 
     def test_a_refused_access_and_its_reason(self) -> None:
         m = self.m
@@ -155,7 +155,7 @@ class Nested(laws.Laws):
     @property
     def board(self) -> marm.Board:
         """The kernel's own, with less memory."""
-        own = marm.Board.load(BOARDS / "nested.toml")
+        own = marm.Board.load(KERNELS / "nested.toml")
         return marm.Board(0x1_0000, 0x1_0000, lines=own.lines, events=own.events)
 
     def test_signals_are_the_events_of_a_script(self) -> None:

@@ -8,7 +8,7 @@ import unittest
 import marm
 from marm.worlds import tasks_of
 
-from .support import BOARDS, KERNELS, needs_program
+from .support import KERNELS, needs_program
 
 ROUND_ROBIN = """\
 world 1 steps 1788 tick 354 pc 00000100 code 00000100 00000128 task_a
@@ -96,15 +96,15 @@ class Lines(unittest.TestCase):
 @needs_program
 class Program(unittest.TestCase):
     def test_round_robin(self) -> None:
-        tasks = marm.tasks(KERNELS / "round_robin.elf", BOARDS / "round_robin.toml", steps=20_000)
+        tasks = marm.tasks(KERNELS / "round_robin.elf", KERNELS / "round_robin.toml", steps=20_000)
         self.assertEqual(tasks, tasks_of(ROUND_ROBIN.split("\n")))
 
     def test_a_mailbox_that_is_allowed(self) -> None:
-        image, board = (KERNELS / "mailbox.elf").read_bytes(), BOARDS / "mailbox.toml"
+        image, board = (KERNELS / "mailbox.elf").read_bytes(), KERNELS / "mailbox.toml"
         self.assertEqual(marm.tasks(image, board).shared, [(1, 2, 0x2000_0200, 0x2000_021F)])
         self.assertTrue(marm.tasks(image, board, allow=[(0x2000_0200, 0x2000_021F)]).apart)
 
     def test_an_image_that_is_refused(self) -> None:
         with self.assertRaises(marm.StartError) as caught:
-            marm.tasks(b"no image", BOARDS / "mailbox.toml")
+            marm.tasks(b"no image", KERNELS / "mailbox.toml")
         self.assertEqual(caught.exception.status, 3)

@@ -12,10 +12,10 @@ from unittest import mock
 import marm
 from marm.wire import Answer, Wire
 
-from .support import BOARDS, COUNTER_BOARD, FIRMWARE, KERNELS, PACKAGE, REPOSITORY, needs_program
+from .support import COUNTER_BOARD, FIRMWARE, KERNELS, PACKAGE, REPOSITORY, needs_program
 
 FOLDER = REPOSITORY / "crates" / "test_sessions" / "data"
-ROUND_ROBIN = (KERNELS / "round_robin.elf", BOARDS / "round_robin.toml")
+ROUND_ROBIN = (KERNELS / "round_robin.elf", KERNELS / "round_robin.toml")
 COUNTER = (FIRMWARE / "counter.elf", COUNTER_BOARD)
 
 Case = unittest.TestCase

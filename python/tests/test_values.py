@@ -12,7 +12,7 @@ import marm
 from marm import boards, conditions, results
 from marm.wire import Answer, find_program
 
-from .support import BOARDS, FIRMWARE, REPOSITORY
+from .support import FIRMWARE, KERNELS, REPOSITORY
 
 LINES = (
     "2738 S 20000000 4 u mpu none", "1 F 00000008 2 p ok off", "845 V 0000003C 4 p ok vec", "9 L E000ED04 4 p bus ppb",
@@ -179,7 +179,7 @@ class Boards(unittest.TestCase):
 
     def test_plain_files(self) -> None:
         """The reader for Python below 3.11, against the one of 3.11."""
-        for path in [*BOARDS.glob("*.toml"), *(REPOSITORY / "examples/boards").glob("*.toml")]:
+        for path in [*KERNELS.glob("*.toml"), *(REPOSITORY / "examples/boards").glob("*.toml")]:
             keys = boards.parse_plain(path.read_text())
             self.assertEqual(marm.Board.load(path).flash_size, keys["flash_size"])
             if sys.version_info >= (3, 11):
