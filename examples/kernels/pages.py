@@ -1,5 +1,5 @@
 #!/usr/bin/env python3
-"""Writes the files of which CI makes pages, crates/test_pages/data, from the images that build.sh made.
+"""Writes the files of which CI makes pages, in crates/transcripts/data, from the images that build.sh made.
 
 Usage: examples/kernels/pages.py [FOLDER], the folder that build.sh was given.
 
@@ -13,7 +13,7 @@ import sys
 
 HERE = os.path.dirname(os.path.abspath(__file__))
 BUILT = sys.argv[1] if len(sys.argv) > 1 else HERE
-PAGES = os.path.join(HERE, "..", "..", "crates", "test_pages", "data")
+PAGES = os.path.join(HERE, "..", "..", "crates", "transcripts", "data")
 
 MARKED = "a&lt;b's"  # not every system that a clone is made on lets a file name have <, > or "
 TEXTS = {

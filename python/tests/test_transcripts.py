@@ -1,6 +1,6 @@
 """Sessions of the program, line by line. Without the program the package reads its answers from the transcripts; with
 it the transcripts are what the program answers. `python3 -m tests.test_transcripts` writes them anew. CI
-compares the same transcripts with the program (`crates/test_sessions`)."""
+compares the same transcripts with the program (`crates/transcripts`)."""
 
 from __future__ import annotations
 
@@ -14,7 +14,7 @@ from marm.wire import Answer, Wire
 
 from .support import COUNTER_BOARD, FIRMWARE, KERNELS, PACKAGE, REPOSITORY, needs_program
 
-FOLDER = REPOSITORY / "crates" / "test_sessions" / "data"
+FOLDER = REPOSITORY / "crates" / "transcripts" / "data"
 ROUND_ROBIN = (KERNELS / "round_robin.elf", KERNELS / "round_robin.toml")
 COUNTER = (FIRMWARE / "counter.elf", COUNTER_BOARD)
 
