@@ -23,9 +23,9 @@ class Corpus:
         kernels = os.path.join(top, "examples", "kernels")
         programs = os.path.join(top, "examples", "firmware")
         firmware, small = content(os.path.join(programs, "board.toml")), content(os.path.join(boards, "small.toml"))
-        self.pairs = [(content(os.path.join(top, "examples", "first.elf")), small)]
+        self.pairs = [(content(os.path.join(data, "first.elf")), small)]
         self.pairs.append((content(os.path.join(programs, "crc32-loop.elf")), firmware))
-        for path in sorted(glob.glob(os.path.join(data, "*.elf"))):
+        for path in sorted(set(glob.glob(os.path.join(data, "*.elf"))) - {os.path.join(data, "first.elf")}):
             name = os.path.splitext(os.path.basename(path))[0].removesuffix("_filled")
             own = os.path.join(kernels, name + ".toml")
             self.pairs.append((content(path), content(own) if os.path.exists(own) else firmware))

@@ -80,7 +80,7 @@ class Case:
         """Returns what is wrong with the trace of Slow, where there is a trace."""
         if not self.is_run_to_stop(answer):
             return None
-        slow = answer_of([SLOW, self.words[2], str(self.steps), self.words[5]])
+        slow = answer_of([SLOW, "--slow", self.words[2], str(self.steps), self.words[5]])
         return None if slow and slow.status == 0 and slow.out == answer.out else "Slow writes another trace"
 
     def wrong_in_session(self, answer):
@@ -107,7 +107,7 @@ def keep(folder, case, number, wrong):
     for name, content in (("image.elf", case.image), ("board.toml", case.board), ("session", case.session)):
         written(kept, name, content)
     words = shlex.join([MARM] + [word.replace(folder, kept) for word in case.words])
-    slow = shlex.join([SLOW, f"{kept}/board.toml", str(case.steps), f"{kept}/image.elf"])
+    slow = shlex.join([SLOW, "--slow", f"{kept}/board.toml", str(case.steps), f"{kept}/image.elf"])
     text = f"# {wrong}\n{words} <{kept}/session\n# on Slow: {slow}\n"
     written(kept, "command", text.encode("utf-8", "surrogateescape"))
     print(f"case {number}: {wrong}: {kept}", flush=True)

@@ -9,9 +9,9 @@
 set -euo pipefail
 top=$(cd "$(dirname "${BASH_SOURCE[0]}")/.." && pwd)
 marm=$("$top/marm" --proved)
-slow=$top/crates/slow_machine/out/slow_machine
+slow=$top/crates/test_firmware/out/test_firmware
 folder=$(mktemp -d)
-(cd "$top/crates/slow_machine" && rt run -- data/small.toml 10 data/first.elf) >"$folder/log" 2>&1 ||
+(cd "$top/crates/test_firmware" && rt run -- --slow data/small.toml 10 data/first.elf) >"$folder/log" 2>&1 ||
     { cat "$folder/log" >&2; exit 1; }
 # (its own copies, so that a build beside it changes nothing)
 cp "$marm" "$folder/marm"

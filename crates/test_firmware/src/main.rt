@@ -1,55 +1,70 @@
 //! Runs images on a board, on `Slow` and on `Fast` step by step, and prints what each of them writes to its
 //! console, and why its run ended. CI runs it over the firmware and the kernels of `examples` and compares
-//! what it prints. Before that it holds a debug session over two images, and prints which answers differ.
+//! what it prints. Before that it writes the trace of an image on `Slow`, holds a debug session over two images, and
+//! prints which answers differ.
 #![tactic(auto)]
 
 mod alike;
+mod slow;
 
 use alike::{Named, write_unlike};
 use board::{Board, read_board};
 use elf::{Image, load};
 use machine::{Event, Events, Fast, Slow, Stop, event_line, stop_line};
 use platform::event::EventKind;
+use slow::run_image;
 use std::alloc::Global;
 use std::io::Write;
 use std::{env, fs, io};
 
 /// What is printed for words that don't fit.
-const USAGE: &str = "usage: test_firmware [--fast | --alike COMMANDS IMAGE OTHER] BOARD IMAGE..";
+const USAGE: &str =
+    "usage: test_firmware [--slow BOARD STEPS IMAGE] [--fast | --alike COMMANDS IMAGE OTHER] BOARD IMAGE..";
 
 /// How many steps an image has at most.
 const MAX_STEPS: u32 = 20_000_000;
 
 fn main(rt: HostRuntime) -> io::Result<()> {
-    let mut words = env::args(&rt)?;
-    let (Some(_), Some(first)) = (words.next(), words.next()) else {
+    let mut words = Vec::new(rt.alloc());
+    for word in env::args(&rt)? {
+        words.push(word)?;
+    }
+    match words.as_slice() {
+        [_, option, board, steps, image, rest @ ..] if option.as_str() == "--slow" => {
+            print_slow(&rt, board.as_str(), steps.as_str(), image.as_str())?;
+            if rest.is_empty() {
+                return Ok(());
+            }
+            run_words(&rt, rest)
+        }
+        [_, rest @ ..] => run_words(&rt, rest),
+        [] => rt.println(USAGE),
+    }
+}
+
+/// Does what the words after those of `--slow` ask for.
+fn run_words(rt: &HostRuntime, words: &[String]) -> io::Result<()> {
+    let (asked, is_alone, rest) = match words {
+        [option, commands, one, other, rest @ ..] if option.as_str() == "--alike" => {
+            (Some((commands, one, other)), false, rest)
+        }
+        [option, rest @ ..] if option.as_str() == "--fast" => (None, true, rest),
+        _ => (None, false, words),
+    };
+    let [path, images @ ..] = rest else {
         return rt.println(USAGE);
     };
-    let is_alone = first.as_str() == "--fast";
-    let asked = if first.as_str() == "--alike" {
-        (words.next(), words.next(), words.next())
-    } else {
-        (None, None, None)
-    };
-    let path = if is_alone || asked.0.is_some() {
-        words.next()
-    } else {
-        Some(first)
-    };
-    let Some(path) = path else {
-        return rt.println(USAGE);
-    };
-    let text = fs::read_to_string(&rt, path.as_str())?;
+    let text = fs::read_to_string(rt, path.as_str())?;
     let Ok(board) = read_board(rt.alloc(), text.as_str()) else {
         return println!(rt; "{path} is refused");
     };
-    if let (Some(commands), Some(one), Some(other)) = &asked {
-        print_unlike(&rt, &board, commands.as_str(), one.as_str(), other.as_str())?;
+    if let Some((commands, one, other)) = asked {
+        print_unlike(rt, &board, commands.as_str(), one.as_str(), other.as_str())?;
     }
-    for path in words {
+    for path in images {
         println!(rt; "{path}:")?;
-        let image = fs::read(&rt, path.as_str())?;
-        let out = &mut io::writer(&rt);
+        let image = fs::read(rt, path.as_str())?;
+        let out = &mut io::writer(rt);
         match load(image.as_slice()) {
             Ok(image) if is_alone => run_fast(rt.alloc(), &board, &image, out)?,
             Ok(image) => run_both(rt.alloc(), &board, &image, out)?,
@@ -57,6 +72,19 @@ fn main(rt: HostRuntime) -> io::Result<()> {
         }
     }
     Ok(())
+}
+
+/// Writes the trace of an image on a board on `Slow`.
+fn print_slow(rt: &HostRuntime, board: &str, steps: &str, image: &str) -> io::Result<()> {
+    let Ok(steps) = steps.parse::<u64>() else {
+        return rt.println(USAGE);
+    };
+    let image = fs::read(rt, image)?;
+    let text = fs::read_to_string(rt, board)?;
+    let Ok(board) = read_board(rt.alloc(), text.as_str()) else {
+        return rt.println("the board is refused");
+    };
+    run_image(rt.alloc(), image.as_slice(), &board, steps, io::writer(rt))
 }
 
 /// Holds the debug session of a file of commands over two images, and prints which answers differ, and how

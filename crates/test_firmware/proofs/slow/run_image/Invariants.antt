@@ -1,4 +1,4 @@
-use Rattle.slow_machine.proofs.run_image.Given as goal
+use Rattle.test_firmware.proofs.slow.run_image.Given as goal
 
 -- the failed calls of the writer are counted in the ledger that `run_image` opens
 abbrev pub ghosts-write_trace : goal.ghosts-write_trace

@@ -1,43 +1,18 @@
-//! Runs an image on a board on `Slow`, and writes its trace to standard output, as `marm run` does on `Fast`.
-#![tactic(auto)]
+//! A run on `Slow`, whose trace is written as `marm run` writes that of `Fast`.
 
 ghost use Rattle.std.specs.Prelude.{◌≡◌};
 
-use board::{Board, read_board};
+use board::Board;
 use elf::load;
 use machine::{Over, Paged, Slow};
 use std::alloc::Global;
+use std::io;
 use std::io::Write;
 use std::marker::Brand;
 use std::sync::ledger::{Blank, Ledger};
-use std::{env, fs, io};
-
-/// What is printed for words that don't fit.
-const USAGE: &str = "usage: slow_machine BOARD STEPS IMAGE";
-
-fn main(rt: HostRuntime) -> io::Result<()> {
-    let mut words = env::args(&rt)?;
-    let (Some(_), Some(board), Some(steps), Some(image)) = (
-        words.next(),
-        words.next(),
-        words.next(),
-        words.next(),
-    ) else {
-        return rt.println(USAGE);
-    };
-    let Ok(steps) = steps.parse::<u64>() else {
-        return rt.println(USAGE);
-    };
-    let image = fs::read(&rt, image.as_str())?;
-    let text = fs::read_to_string(&rt, board.as_str())?;
-    let Ok(board) = read_board(rt.alloc(), text.as_str()) else {
-        return rt.println("the board is refused");
-    };
-    run_image(rt.alloc(), image.as_slice(), &board, steps, io::writer(&rt))
-}
 
 /// Runs an image on a board for at most `steps` steps, and writes its trace.
-fn run_image<W: Write + Drop>(
+pub fn run_image<W: Write + Drop>(
     alloc: Global,
     image: &[u8],
     board: &Board,
