@@ -2,6 +2,7 @@
 
 use super::page_worlds::world_of;
 use super::pages::IMAGE;
+use super::worlds::EVERYWHERE;
 use access_map::Worlds;
 use elf::load;
 use machine::{Board, Events, Fast, Kind, Layout, Place, RegionCount, Rule, Stop};
@@ -52,9 +53,6 @@ const LONGEST_SETTING: u32 = 0x0300_FF0F;
 
 /// How many worlds there are: one more than have columns.
 const WORLDS: u32 = 9;
-
-/// RASR of a region of 2^32 bytes that may be read and written.
-const EVERYWHERE: u32 = 1 << 28 | 3 << 24 | 31 << 1 | 1;
 
 /// RASR of a region of 256 bytes that may be read, written and executed, with every second subregion off.
 const EVERY_SECOND: u32 = 3 << 24 | 0xAA << 8 | 7 << 1 | 1;

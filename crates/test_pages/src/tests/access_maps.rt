@@ -2,6 +2,9 @@
 //! those of a machine in another language, which was written from the rule alone. All other values were worked out by
 //! hand.
 
+use super::worlds::{
+    BLOCK, BOARD, CODE, EVERYWHERE, MAILBOX, NOTICE, ON, Region, Setting, on, world, write,
+};
 use access_map::{
     AccessMap, MAX_WORLDS, Span, World, Worlds, are_apart, map_text, others_line, pair_text,
     shared, world_line,
@@ -11,84 +14,12 @@ use platform::board::{Layout, SecondRam};
 use platform::mpu::RegionCount;
 use std::test::Fail;
 
-/// The board of `round_robin`.
-const BOARD: Layout = Layout {
-    flash_base: 0,
-    flash_size: 0x4000,
-    ram_size: 0x2000,
-    second_ram: None,
-    priority_bits: 4,
-    interrupts: 0,
-    regions: RegionCount::Eight,
-};
-
-/// MPU_CTRL: ENABLE and PRIVDEFENA.
-const ON: u32 = 5;
-
-/// RASR of a region of 256 bytes that may be read and executed.
-const CODE: u32 = 6 << 24 | 7 << 1 | 1;
-
-/// RASR of a region of 512 bytes that may be read and written.
-const BLOCK: u32 = 1 << 28 | 3 << 24 | 8 << 1 | 1;
-
-/// RASR of a region of 32 bytes that may be read and written.
-const MAILBOX: u32 = 1 << 28 | 3 << 24 | 4 << 1 | 1;
-
-/// RASR of a region of 32 bytes that may only be read.
-const NOTICE: u32 = 1 << 28 | 6 << 24 | 4 << 1 | 1;
-
-/// RASR of a region of 2^32 bytes that may be read and written.
-const EVERYWHERE: u32 = 1 << 28 | 3 << 24 | 31 << 1 | 1;
-
 /// RASR of a region of 256 bytes with two subregions switched off, those of its bytes 32 to 95.
 const GAP: u32 = 1 << 28 | 3 << 24 | 0b110 << 8 | 7 << 1 | 1;
 
-/// A base and a RASR.
-type Region = (u32, u32);
-
-/// A setting of the MPU, with regions numbered from 0.
-#[derive(Clone, Copy)]
-struct Setting<'a> {
-    control: u32,
-    below_zero: bool,
-    regions: &'a [Region],
-}
-
-/// Returns the world of a setting.
-fn world(setting: &Setting<'_>) -> Result<World, Fail> {
-    let mut registers = MpuRegs::new(8);
-    'regions: for (number, (base, attributes)) in setting.regions.iter().enumerate() {
-        let number = u32::try_from(number).ok().ok_or("number")?;
-        registers
-            .write_reg(MpuRegister::Number, number)
-            .ok()
-            .ok_or("RNR")?;
-        registers
-            .write_reg(MpuRegister::Base, *base)
-            .ok()
-            .ok_or("RBAR")?;
-        registers
-            .write_reg(MpuRegister::Attributes, *attributes)
-            .ok()
-            .ok_or("RASR")?;
-    }
-    registers
-        .write_reg(MpuRegister::Control, setting.control)
-        .ok()
-        .ok_or("MPU_CTRL")?;
-    Ok(World {
-        registers,
-        below_zero: setting.below_zero,
-    })
-}
-
-/// Returns a setting with the MPU on, while the execution priority isn't below 0.
-const fn on(regions: &[Region]) -> Setting<'_> {
-    Setting {
-        control: ON,
-        below_zero: false,
-        regions,
-    }
+/// Returns the world of a setting of eight regions.
+fn world_of(setting: &Setting<'_>) -> Result<World, Fail> {
+    world(MpuRegs::new(8), setting)
 }
 
 /// The regions of the tasks a, b and c.
@@ -195,7 +126,7 @@ map 5 40000000 40000FFF window rw- r0
 #[test]
 fn maps_have_these_lines(rt: HostRuntime) -> Result<(), Fail> {
     'maps: for (number, setting, expected) in &MAPS {
-        let map = AccessMap::of(rt.alloc(), &world(setting)?, &BOARD)?;
+        let map = AccessMap::of(rt.alloc(), &world_of(setting)?, &BOARD)?;
         let text = map_text(rt.alloc(), *number, &map)?;
         assert_eq!(rt; text.as_slice(), expected.as_bytes(), "world {number}");
     }
@@ -306,8 +237,8 @@ shares 3 1 20000414 2000041F
 #[test]
 fn pairs_have_these_lines(rt: HostRuntime) -> Result<(), Fail> {
     'pairs: for pair in &PAIRS {
-        let one = world(&on(pair.regions))?;
-        let other = world(&on(pair.others))?;
+        let one = world_of(&on(pair.regions))?;
+        let other = world_of(&on(pair.others))?;
         let there = shared(rt.alloc(), &BOARD, &one, &other, pair.allowed)?;
         let back = shared(rt.alloc(), &BOARD, &other, &one, pair.allowed)?;
         let text = pair_text(rt.alloc(), 1, 3, &there, &back)?;
@@ -348,7 +279,7 @@ const WORLD_LINES: [(&str, &str); 3] = [
 fn worlds_are_numbered_by_their_first_steps(rt: HostRuntime) -> Result<(), Fail> {
     let mut worlds = Worlds::new(rt.alloc())?;
     'steps: for (regions, tick, pc) in &STEPS {
-        worlds.count(&world(&on(regions))?, *tick, *pc);
+        worlds.count(&world_of(&on(regions))?, *tick, *pc);
     }
     assert_eq!(rt; worlds.rows().len(), WORLD_LINES.len());
     assert_eq!(rt; worlds.others(), 0);
@@ -365,7 +296,7 @@ fn worlds_are_numbered_by_their_first_steps(rt: HostRuntime) -> Result<(), Fail>
 fn further_worlds_are_counted_together(rt: HostRuntime) -> Result<(), Fail> {
     let mut worlds = Worlds::new(rt.alloc())?;
     'worlds: for number in 0..66_u32 {
-        let other = world(&on(&[(0x2000_0000 + 32 * number, MAILBOX)]))?;
+        let other = world_of(&on(&[(0x2000_0000 + 32 * number, MAILBOX)]))?;
         worlds.count(&other, 1, 0x100);
         worlds.count(&other, 2, 0x102);
     }
@@ -380,17 +311,13 @@ fn further_worlds_are_counted_together(rt: HostRuntime) -> Result<(), Fail> {
 
 #[test]
 fn a_world_is_what_the_regions_say(rt: HostRuntime) -> Result<(), Fail> {
-    let one = world(&on(&TASK_A))?;
+    let one = world_of(&on(&TASK_A))?;
     let mut other = one;
-    other
-        .registers
-        .write_reg(MpuRegister::Number, 3)
-        .ok()
-        .ok_or("RNR")?;
+    write(&mut other.registers, MpuRegister::Number, 3)?;
     assert!(rt; one.is_same(&other), "what RNR selects");
     other.below_zero = true;
     assert!(rt; !one.is_same(&other), "the rule neg");
-    let off = world(&Setting {
+    let off = world_of(&Setting {
         control: 0,
         below_zero: false,
         regions: &TASK_A,
@@ -504,7 +431,7 @@ map 1 7FFFFC00 800003FF ram rwx off
 #[test]
 fn a_second_ram_has_its_place_in_a_map(rt: HostRuntime) -> Result<(), Fail> {
     'maps: for (board, expected) in &SECOND_MAPS {
-        let map = AccessMap::of(rt.alloc(), &world(&OFF)?, board)?;
+        let map = AccessMap::of(rt.alloc(), &world_of(&OFF)?, board)?;
         let text = map_text(rt.alloc(), 1, &map)?;
         assert_eq!(rt; text.as_slice(), expected.as_bytes());
     }
@@ -546,8 +473,8 @@ const SECOND_PAIRS: [(Layout, &[Region], &[Region], &str); 4] = [
 #[test]
 fn a_second_ram_is_shared(rt: HostRuntime) -> Result<(), Fail> {
     'pairs: for (board, regions, others, expected) in &SECOND_PAIRS {
-        let one = world(&on(regions))?;
-        let other = world(&on(others))?;
+        let one = world_of(&on(regions))?;
+        let other = world_of(&on(others))?;
         let there = shared(rt.alloc(), board, &one, &other, &[])?;
         let back = shared(rt.alloc(), board, &other, &one, &[])?;
         let text = pair_text(rt.alloc(), 1, 3, &there, &back)?;

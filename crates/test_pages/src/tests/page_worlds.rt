@@ -1,61 +1,20 @@
 //! The part of a page about worlds.
 
 use super::pages::{page_with, start_symbol};
+use super::worlds::{BLOCK, BOARD, CODE, MAILBOX, NOTICE, Region, on, world};
 use access_map::{World, Worlds};
-use machine::{Layout, RegionCount};
-use mpu::{MpuRegister, MpuRegs};
+use mpu::MpuRegs;
 use std::str;
 use std::test::*;
 
-/// The board of the kernel `mailbox`.
-const BOARD: Layout = Layout {
-    flash_base: 0,
-    flash_size: 0x4000,
-    ram_size: 0x2000,
-    second_ram: None,
-    priority_bits: 4,
-    interrupts: 0,
-    regions: RegionCount::Eight,
-};
-
-/// RASR of a region of 256 bytes that may be read and executed.
-const CODE: u32 = 6 << 24 | 7 << 1 | 1;
-
-/// RASR of a region of 512 bytes that may be read and written.
-const BLOCK: u32 = 1 << 28 | 3 << 24 | 8 << 1 | 1;
-
-/// RASR of a region of 32 bytes that may be read and written, and of one that may be read.
-const MAILBOX: u32 = 1 << 28 | 3 << 24 | 4 << 1 | 1;
-
-const NOTICE: u32 = 1 << 28 | 6 << 24 | 4 << 1 | 1;
-
 /// RBAR and RASR of each region of the kernel's two tasks.
-const WRITER: [(u32, u32); 3] = [(0x100, CODE), (0x2000_0000, BLOCK), (0x2000_0200, MAILBOX)];
+const WRITER: [Region; 3] = [(0x100, CODE), (0x2000_0000, BLOCK), (0x2000_0200, MAILBOX)];
 
-const READER: [(u32, u32); 3] = [(0x200, CODE), (0x2000_0200, BLOCK), (0x2000_0200, NOTICE)];
+const READER: [Region; 3] = [(0x200, CODE), (0x2000_0200, BLOCK), (0x2000_0200, NOTICE)];
 
-/// Returns the world of regions that are numbered from 0, while the MPU is on.
-pub(super) fn world_of(regions: &[(u32, u32)]) -> Result<World, Fail> {
-    let mut registers = MpuRegs::new(16);
-    'regions: for (number, (base, attributes)) in regions.iter().enumerate() {
-        let number = u32::try_from(number).ok().ok_or("a number")?;
-        write(&mut registers, MpuRegister::Number, number)?;
-        write(&mut registers, MpuRegister::Base, *base)?;
-        write(&mut registers, MpuRegister::Attributes, *attributes)?;
-    }
-    write(&mut registers, MpuRegister::Control, 5)?;
-    Ok(World {
-        registers,
-        below_zero: false,
-    })
-}
-
-/// Writes a register of the MPU.
-fn write(registers: &mut MpuRegs, register: MpuRegister, value: u32) -> Result<(), Fail> {
-    match registers.write_reg(register, value) {
-        Ok(()) => Ok(()),
-        Err(_) => Err(Fail::new("a register that is written")),
-    }
+/// Returns the world of regions that are numbered from 0, of 16, while the MPU is on.
+pub(super) fn world_of(regions: &[Region]) -> Result<World, Fail> {
+    world(MpuRegs::new(16), &on(regions))
 }
 
 /// Texts that the part of the two tasks has: their steps, a row for each change of rights, and what they share.
@@ -82,11 +41,7 @@ const PARTS: [&str; 13] = [
 ];
 
 /// Returns a page about two steps of the first world and one of the second, or of the first alone.
-fn page_of(
-    rt: &HostRuntime,
-    regions: &[(u32, u32)],
-    others: &[(u32, u32)],
-) -> Result<Vec<u8>, Fail> {
+fn page_of(rt: &HostRuntime, regions: &[Region], others: &[Region]) -> Result<Vec<u8>, Fail> {
     let mut worlds = Worlds::new(rt.alloc())?;
     worlds.count(&world_of(regions)?, 7, 8);
     worlds.count(&world_of(regions)?, 8, 10);
