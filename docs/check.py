@@ -53,7 +53,7 @@ COMMANDS = set("""rt make man groff python3 valgrind taskset ld.lld arm-none-eab
 llvm-readelf llvm-objdump llvm-mc llvm-objcopy qemu-system-arm readelf awk date ulimit""".split())
 
 # the commands of gdb and its packets, on the pages about it
-GDB_PAGES = re.compile("docs/GDB.md|crates/(gdb\\w*|test_gdb)/README.md")
+GDB_PAGES = re.compile("docs/GDB.md|crates/(gdb\\w*|transcripts)/README.md")
 GDB_COMMANDS = set("""G reverse-stepi reverse-continue break hbreak tbreak step stepi next until advance finish continue info set jump
 call print x bt load detach disconnect kill quit monitor place target maintenance on off""".split())
 

@@ -1,8 +1,8 @@
 #!/usr/bin/env bash
-# Writes by what CI runs the kernels: copies of their images in crates/test_firmware/data, and their rows in its args and
-# stdout, after those of `make gate` of examples/firmware; and before all of them the trace of first.elf on Slow, which is
-# that of crates/marm, and the debug session over two images of round_robin. The program there takes one board for all
-# images, which is that of nested: its script has no effect on a program that enables no line.
+# Writes by what CI runs the kernels: copies of their images in crates/test_firmware/data, and their rows in its args
+# and stdout, after those of `make gate` of examples/firmware; and before all of them the trace of first.elf on Slow,
+# which is that of crates/marm, and the debug session over two images of round_robin. The program there takes one board
+# for all images, which is that of nested: its script has no effect on a program that enables no line.
 set -euo pipefail
 here=$(cd "$(dirname "${BASH_SOURCE[0]}")" && pwd)
 gate=$here/../../crates/test_firmware

@@ -1,5 +1,5 @@
 //! Texts of `marm tasks` about small images, and how the program ends after them. The texts were worked out by hand
-//! from the rule; those about whole kernels are in `test_worlds`.
+//! from the rule; those about whole kernels are in `transcripts`.
 
 use super::cut::Text;
 use super::elf_files::ElfFile;
