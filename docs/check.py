@@ -20,12 +20,19 @@ A page is README.md, CONTRIBUTING.md, docs/*.md or crates/*/README.md. A name is
     `some code = 1`          each name in it
     `command word ..`        the files in it
 
-In a table with a column "Definition", "Function" or "Test", a chapter or a crate ahead of a name says where the name
-has to be: "Step `running`", "exec `plan`", "test_runs `short_runs`". The links of all pages are checked too. Without a
-page, the manual page docs/marm.1 is formatted too, by `groff -ww` and `man --warnings` where they are installed: each
-warning is an error. So is a file in crates/*/data that differs from the one of that name in examples/, or in the data of
-another crate, a command of the debugger that the help or docs/DEBUGGING.md leaves out, a named stop that
-docs/STOPS.md or the images of test_runs leave out, and more than 4,000 lines in docs/*.md and the pages at the top.
+Where the text says whose a name is, the name has to be there:
+
+    `a`, `b` of `crate`      in that crate, also a file: `file.rt` of `crate`; of `Type`: a member of that type or trait
+    the record `Name`        a record of specs/, or a struct of src/
+    exec `plan`              in a table with a column "Definition", "Function" or "Test": in the chapter or the crate
+                             ahead of the name, or else in those of the paragraph above the table
+
+A call in a block of Rust has as many arguments as a function of its name takes (calls.py). The links of all pages are
+checked too. Without a page, the manual page docs/marm.1 is formatted too, by `groff -ww` and
+`man --warnings` where they are installed: each warning is an error. So is a file in crates/*/data that differs from the
+one of that name in examples/, or in the data of another crate, a command of the debugger that the help or
+docs/DEBUGGING.md leaves out, a named stop that docs/STOPS.md or the images of test_runs leave out, and a page that is
+longer than MAX_LINES says.
 """
 
 import fnmatch
@@ -38,6 +45,7 @@ import sys
 
 sys.dont_write_bytecode = True  # (so that no folder of them stands among the pages)
 
+from calls import Calls
 from marks import Marks
 
 TOP = os.path.dirname(os.path.dirname(os.path.abspath(__file__)))
@@ -73,7 +81,7 @@ take unwrap_or Prelude Type nat_le nat_lt is_some Invariants Answers Proof old n
 OUTSIDE = set("""e_ident EI_CLASS EI_DATA e_type e_machine e_phoff e_phentsize e_phnum e_entry e_version e_flags e_ehsize
 p_type p_offset p_paddr p_filesz p_vaddr p_memsz p_flags p_align MEMORY PHDRS FILEHDR FLASH RAM AT LOADADDR ORIGIN
 PROVIDE KEEP memcpy memmove memset strcmp strstr printf malloc _sbrk _write _exit _read _close _fstat _isatty _lseek
-mps2-an385 lm3s6965evb stm32vldiscovery -singlestep armv7m_nvic_complete_irq start.elf hello-newlib.elf hello-plain.elf objects.cpp preinit_array init_array ARM.exidx ARM.extab arm-none-eabi-size .bss .data setpan setend hi.c /opt/rattle bin/rattle toolchain/bin/rattle-x64""".split())
+mps2-an385 lm3s6965evb stm32vldiscovery -singlestep armv7m_nvic_complete_irq start.elf hello-newlib.elf hello-plain.elf objects.cpp preinit_array init_array ARM.exidx ARM.extab arm-none-eabi-size .bss .data setpan setend hi.c /opt/rattle bin/rattle logic/antt-project.json toolchain/bin/rattle-x64""".split())
 
 # instructions and registers of the manual, and words of a trace line
 MANUAL = re.compile(r"""^(R\d+|R\[n\]|[A-Z][A-Z0-9_]+(\.[A-Z0-9_]+)?   # registers, fields, instructions
@@ -91,7 +99,7 @@ EXAMPLE_PAGES = {
 }
 
 # what the kit and a shell print or take
-WHOLE = re.compile(r"^(rattle-kit-.*|--specs=\w+\.specs|-Wl,--[\w=.]+|Handles allowed: none\.|grep .*|N passed, 0 failed|old \+\+ bytes|List ℕ|WHAT|rattle|git .*|.*::Chapter::.*)$")
+WHOLE = re.compile(r"^(rattle-kit-.*|--specs=\w+\.specs|-Wl,--[\w=.]+|Handles allowed: none\.|<!DOCTYPE html>|</html>|grep .*|N passed, 0 failed|old \+\+ bytes|List ℕ|WHAT|rattle|git .*|.*::Chapter::.*)$")
 
 # words of the last line of a check, and the folder in which `rt` keeps its work
 VERDICT = re.compile(r"^((native|statements|libraries-built|logic-built|incremental|cache|bugs|hides|axioms)(=trusted)?|logic=(not-)?proved|checked=0|out/)$")
@@ -115,9 +123,11 @@ def tracked():
 ITEM = re.compile(r"\b(?:fn|struct|enum|trait|type|const|static|mod|ghost|ensures|requires|label)\s+([A-Za-z_]\w*)")
 TYPED = re.compile(r"\b([a-z_]\w*)\s*:(?!:)")
 VARIANT = re.compile(r"^\s+([A-Z]\w*)\s*(?:[,({]|= \d|$)", re.M)
+FUNCTION = re.compile(r"\bfn\s+(\w+)")
 MACRO = re.compile(r"macro_rules!\s*(\w+)")
 BLOCK = re.compile(r"^(?:pub(?:\([a-z]+\))?\s+)?(impl|trait|enum|struct)\b([^{;]*)\{(.*?)^\}", re.M | re.S)
 TEXT = re.compile(r'"([^"\\\n]{1,60})"')
+RECORD = re.compile(r"^(?:pub )?(?:record|(?:pub(?:\([a-z]+\))? )?struct) (\w+)", re.M)
 SPEC = re.compile(r"^\s*(?:(?:abbrev|unfoldable|opaque|pub|record|data|mod|private|syntax)\s+)*([A-Za-z_][\w'-]*)\s*[:({]?", re.M)
 # what counts as a name in the manual page and in the script that runs the program: their other words are prose
 OPTION = re.compile(r"(?<![\w-])--[a-z][\w-]*")
@@ -141,6 +151,7 @@ class Repository:
                 path = os.path.dirname(path)
                 self.folders.add(path)
         self.crates = [line.split(":")[0] for line in read("crates.txt").splitlines() if re.match(r"[a-z]\w*:", line)]
+        of_tests = set(re.findall(r"^([a-z]\w*):", read("crates.txt").partition("\n# Tests\n")[2], re.M))
         self.below = {}                    # the crates and libraries of the kit that a crate is built on
         for line in read("crates.txt").splitlines():
             if re.match(r"[a-z]\w*:", line):
@@ -154,11 +165,16 @@ class Repository:
         self.of_file = {}                  # the names of a file, by its stem: chapters and modules
         self.of_owner = {}                 # the members of a type or a trait
         self.traits_of = {}                # the traits that a type has
+        self.records = set()               # the records of specs/ and proofs/, and the structs of src/
+        self.tests = {}                    # the functions of a crate of tests: what other pages than its own name of it
         self.seen = {}                     # the names that a page can speak of
+        self.calls = Calls((path.split("/")[1], without_comments(read(path))) for path in self.files
+                           if re.match(r"crates/\w+/src/.*\.rt$", path))
         for path in self.files:
             parts = path.split("/")
+            is_test = len(parts) > 1 and parts[1] in of_tests
             if path.endswith(".rt"):
-                found = self.rust(read(path), parts[1].startswith("test_") if len(parts) > 1 else False)
+                found = self.rust(read(path), is_test)
             elif path.endswith(".antt"):
                 found = self.definitions(read(path))
             elif path in (MANUAL_PAGE, SCRIPT):
@@ -172,7 +188,12 @@ class Repository:
                 continue
             else:
                 continue
-            self.names |= found
+            if is_test:
+                functions = set(FUNCTION.findall(read(path)))
+                self.tests.setdefault(parts[1], set()).update(functions)
+                self.names |= functions
+            else:
+                self.names |= found
             stem = os.path.splitext(parts[-1])[0]
             self.of_file.setdefault(stem, set()).update(found)
             if parts[0] == "crates":
@@ -185,7 +206,9 @@ class Repository:
 
     def rust(self, text, is_test):
         code = without_comments(text)
-        found = set(ITEM.findall(code)) | set(MACRO.findall(code)) | set(TYPED.findall(code)) | set(VARIANT.findall(code))
+        self.records.update(RECORD.findall(code))
+        reexported = " ".join(re.findall(r"^pub use ([^;]*);", code, re.M))
+        found = set(re.findall(r"\w+\b(?!::)", reexported)) | set(ITEM.findall(code)) | set(MACRO.findall(code)) | set(TYPED.findall(code)) | set(VARIANT.findall(code))
         if not is_test:
             self.texts.update(words_of_texts(code))
         for kind, head, body in BLOCK.findall(code):
@@ -204,6 +227,7 @@ class Repository:
 
     def definitions(self, text):
         code = re.sub(r"--[^\n]*", "", text)
+        self.records.update(RECORD.findall(code))
         self.texts.update(words_of_texts(code))
         return set(SPEC.findall(code))
 
@@ -228,8 +252,21 @@ class Repository:
                         reached.add(crate)
                         left += self.below.get(crate, [])
                 self.seen[page] = self.names_of_files.union(self.crates, *self.below.values())
-                self.seen[page].update(*(self.of_crate.get(crate, set()) for crate in reached))
+                self.seen[page].update(*(self.spoken_of(crate, own) for crate in reached))
         return self.seen[page]
+
+    def spoken_of(self, crate, own):
+        """The names of a crate that the README of another one, or its own, can speak of."""
+        names = self.of_crate.get(crate, set())
+        return names if crate == own else self.tests.get(crate, names)
+
+    def is_in_crate(self, name, crate):
+        """Whether a crate has a name, a name of one of its types (`Owner::name`), or a file."""
+        if re.search(r"\.[a-z]+$", name):
+            return any(path.startswith(f"crates/{crate}/") and path.endswith("/" + name) for path in self.files)
+        parts = re.split(r"::|\.", re.sub(r"[!(<].*", "", name))
+        return all(part in self.of_crate.get(crate, set()) or part == crate for part in parts) and (
+            len(parts) == 1 or self.has_member(*parts[-2:]))
 
     def has_member(self, owner, name):
         places = [self.of_owner.get(owner, set()), self.of_file.get(owner, set()), self.of_crate.get(owner, set())]
@@ -270,8 +307,8 @@ def missing(repo, span, page):
     words = span.split()
     if GDB_PAGES.fullmatch(page) and words[0] in GDB_COMMANDS:
         return []
-    if words[0] in COMMANDS or words[0].startswith(("./", "crosscheck/", "bench/", "fuzz/", "docs/", "mutations/")) and len(words) > 1:
-        lost = [w for w in words if "/" in w and w[0].isalpha() and not repo.has_path(w, page)]
+    if words[0] in COMMANDS or words[0].startswith(("./", "../bin/", "crosscheck/", "bench/", "fuzz/", "docs/", "mutations/")) and len(words) > 1:
+        lost = [w for w in words if "/" in w and w[0].isalpha() and w not in OUTSIDE and not repo.has_path(w, page)]
         if words[0] == "rt" and len(words) > 1 and words[1] not in RT_WORDS:
             lost.append(span)
         return lost
@@ -325,24 +362,69 @@ ENGLISH = set("marm is it takes an at and the before event of other entries has 
 
 
 def lines_of(page):
-    """Yields the lines of a page with their numbers, and whether a line is part of a block of code."""
-    fenced = False
+    """Yields the lines of a page with their numbers, and whether a line is part of a block of code. A line that is
+    indented is one only after a blank line or another one; elsewhere it goes on with a paragraph or a list."""
+    fenced, is_code, before = False, False, ""
     for number, line in enumerate(read(page).split("\n"), 1):
-        if line.startswith("```"):
+        if line.lstrip().startswith("```"):
             fenced = not fenced
+            yield number, line, True
             continue
-        yield number, line, fenced or line.startswith("    ")
+        is_code = line.startswith("    ") and (is_code or not before.strip())
+        before = line
+        yield number, line, fenced or is_code
 
 
 def spans(line):
     return re.findall(r"(?<!`)`([^`]+)`(?!`)", line)
 
 
+# names, and the crate, the file, the type or the trait whose they are
+OWNED = re.compile(r"(`[^`]+`(?:(?:,|\s+and|,\s+and|\s+or)\s+`[^`]+`)*)(?:\s+\(private\))?\s+of\s+"
+                   r"(?:the\s+(?:crate|type|trait)\s+)?`([A-Za-z_]\w*)`")
+RECORDS = re.compile(r"\brecords?\s+`(\w+)`")
+
+
+def by_owner(repo, page):
+    """Yields the names of a page that aren't where the text says, and the records that are none, with their lines."""
+    text = "\n".join("" if is_code else line for _, line, is_code in lines_of(page))
+    for match in OWNED.finditer(text):
+        owner = match[2]
+        for name in re.findall(r"`([^`]+)`", match[1]):
+            if owner in repo.of_crate:
+                there = repo.is_in_crate(name, owner)
+            else:
+                there = owner not in repo.of_owner and owner not in repo.of_file or repo.has_member(owner, name)
+            if not there:
+                yield text.count("\n", 0, match.start()) + 1, f"{name} of {owner}"
+    for match in RECORDS.finditer(text):
+        if match[1] not in repo.records:
+            yield text.count("\n", 0, match.start()) + 1, f"the record {match[1]}"
+
+
 COLUMNS = ("Definition", "Function", "Function, clause", "Test")
 
+# where the text above a table says that the names of its columns are
+PLACES = {
+    "Definition": re.compile(r"\bDefinitions in ((?:`\w+\.antt`(?:,| and)? ?)+)(and the chapters)?"),
+    "Function, clause": re.compile(r"\b[Ff]unctions (?:\([^)]*\) )?in ((?:`\w+`(?:,| and)? ?)+)"),
+    "Test": re.compile(r"\btests? in ((?:`\w+`(?:,| and)? ?)+)"),
+}
 
-def in_columns(repo, header, line):
-    """Returns the names of a row of a table that aren't where the row says, and the places that aren't there."""
+
+def places_in(repo, paragraph):
+    """Returns for the columns of a table the names that its section can mean, as far as its text says where they are."""
+    found = {}
+    for column, pattern in PLACES.items():
+        match = pattern.search(paragraph)
+        if match and not (match.lastindex and match.lastindex > 1):
+            stems = [name.removesuffix(".antt") for name in re.findall(r"`([\w.]+)`", match[1])]
+            found[column] = set().union(*(repo.of_file.get(stem, set()) | repo.of_crate.get(stem, set()) for stem in stems))
+    return found
+
+
+def in_columns(repo, header, line, places):
+    """Returns the names of a row of a table that aren't where the row, or the text above the table, says."""
     lost = []
     cells = [cell.strip() for cell in line.strip().strip("|").split(" | ")]
     for title, cell in zip(header, cells):
@@ -361,16 +443,27 @@ def in_columns(repo, header, line):
                         lost.append(token)
                 continue
             name = re.sub(r"\(.*", "", token.strip("`"))
-            if place is None or "/" in name or " " in name or "::" in name or "." in name:
+            if "/" in name or " " in name or "::" in name or "." in name:
                 continue
-            if name not in repo.of_file.get(place, set()) and name not in repo.of_crate.get(place, set()):
+            if place is None:
+                lost += [] if name in places.get(title, {name}) else [f"{title} {name}"]
+            elif name not in repo.of_file.get(place, set()) and name not in repo.of_crate.get(place, set()):
                 lost.append(f"{place} {name}")
     return lost
 
 
+def wrong_calls(repo, page):
+    """Yields the calls in a page's blocks of Rust that have another number of arguments than the functions take."""
+    crate = page.split("/")[1] if page.startswith("crates/") else None
+    for block in re.finditer(r"^```rust\n(.*?)^```", read(page), re.M | re.S):
+        first = read(page).count("\n", 0, block.start(1)) + 1
+        for line, text in repo.calls.wrong(without_comments(block[1]), crate):
+            yield first + line, text
+
+
 def check(repo, page):
-    found = []
-    header = None
+    found = [*by_owner(repo, page), *wrong_calls(repo, page)]
+    header, above = None, ""
     for number, line, is_code in lines_of(page):
         if is_code:
             continue
@@ -378,9 +471,9 @@ def check(repo, page):
             if header is None:
                 header = [cell.strip() for cell in line.strip().strip("|").split("|")]
             elif not re.match(r"^\|[-| :]+$", line):
-                found += [(number, name) for name in in_columns(repo, header, line)]
+                found += [(number, name) for name in in_columns(repo, header, line, places_in(repo, above))]
         else:
-            header = None
+            header, above = None, "" if line.startswith("#") else f"{above} {line}"
         for span in spans(line):
             found += [(number, name) for name in missing(repo, span, page)]
         for target in re.findall(r"\]\(([^)#]+)(?:#[^)]*)?\)", re.sub(r"`[^`]*`", "", line)):
@@ -419,8 +512,8 @@ def lists(repo):
     return lost
 
 
-# how many lines docs/*.md and the pages at the top may have together, so that somebody can still read them all
-MAX_LINES = 4000
+# how many lines a page may have, so that somebody can still read it at one sitting
+MAX_LINES = {"README.md": 150, "CHANGELOG.md": 120, "CONTRIBUTING.md": 260, "docs/*.md": 260}
 
 # where the help lists the debugger's commands
 HELP_OF_DEBUG = "crates/command_line/src/texts.rt"
@@ -485,14 +578,13 @@ def stops():
 
 
 def length():
-    """Says so where the pages together are too long."""
-    counted = {os.path.relpath(path, TOP): read(path).count("\n")
-               for pattern in ("docs/*.md", "*.md") for path in glob.glob(os.path.join(TOP, pattern))}
-    lines = sum(counted.values())
-    if lines > MAX_LINES:
-        longest = ", ".join(f"{page} {counted[page]}" for page in sorted(counted, key=counted.get, reverse=True)[:5])
-        yield (f"docs/*.md and the pages at the top have {lines:,} lines together, and may have {MAX_LINES:,}: "
-               f"delete {lines - MAX_LINES:,} (the longest are {longest})")
+    """Yields the pages that are too long."""
+    for pattern, most in MAX_LINES.items():
+        for path in sorted(glob.glob(os.path.join(TOP, pattern))):
+            page = os.path.relpath(path, TOP)
+            lines = read(page).count("\n")
+            if lines > most:
+                yield f"{page}: {lines} lines, and may have {most}"
 
 
 def pages():
