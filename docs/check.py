@@ -14,6 +14,7 @@ A page is README.md, CONTRIBUTING.md, docs/*.md or crates/*/README.md. A name is
     `Owner::name`            the same, of that type, trait, module or crate
     `Owner.name`             the same
     `a/path.rt`, `file.rt`   a file or folder, from the top, from the page's crate, or the end of one path alone
+    `kept/places`            a table of tests: a file of crates/*/data
     `a-word`                 a word that src/ or specs/ write or read: a stop, a key, a rule. A text of three words or
                              more is a message, and its words are no names
     `--option`               an option of the program, or of the script `marm`, in docs/marm.1 or in the script
@@ -99,7 +100,7 @@ EXAMPLE_PAGES = {
 }
 
 # what the kit and a shell print or take
-WHOLE = re.compile(r"^(rattle-kit-.*|--specs=\w+\.specs|-Wl,--[\w=.]+|Handles allowed: none\.|<!DOCTYPE html>|</html>|grep .*|N passed, 0 failed|old \+\+ bytes|List ℕ|WHAT|rattle|git .*|.*::Chapter::.*)$")
+WHOLE = re.compile(r"^(rattle-kit-.*|--specs=\w+\.specs|-Wl,--[\w=.]+|Handles allowed: none\.|<!DOCTYPE html>|</html>|#\[test\]|grep .*|N passed, 0 failed|old \+\+ bytes|List ℕ|WHAT|rattle|git .*|.*::Chapter::.*)$")
 
 # words of the last line of a check, and the folder in which `rt` keeps its work
 VERDICT = re.compile(r"^((native|statements|libraries-built|logic-built|incremental|cache|bugs|hides|axioms)(=trusted)?|logic=(not-)?proved|checked=0|out/)$")
@@ -261,9 +262,10 @@ class Repository:
         return names if crate == own else self.tests.get(crate, names)
 
     def is_in_crate(self, name, crate):
-        """Whether a crate has a name, a name of one of its types (`Owner::name`), or a file."""
-        if re.search(r"\.[a-z]+$", name):
-            return any(path.startswith(f"crates/{crate}/") and path.endswith("/" + name) for path in self.files)
+        """Whether a crate has a name, a name of one of its types (`Owner::name`), a file, or a table of tests."""
+        if "/" in name or re.search(r"\.[a-z]+$", name):
+            table = f"crates/{crate}/data/{name}.txt"
+            return any(fnmatch.fnmatch(path, table) for path in self.files) or any(path.startswith(f"crates/{crate}/") and path.endswith("/" + name) for path in self.files)
         parts = re.split(r"::|\.", re.sub(r"[!(<].*", "", name))
         return all(part in self.of_crate.get(crate, set()) or part == crate for part in parts) and (
             len(parts) == 1 or self.has_member(*parts[-2:]))
@@ -280,6 +282,8 @@ class Repository:
         if "NAME" in path:
             path = path.replace("NAME", "*")
         if any(fnmatch.fnmatch(folder, path) for folder in self.folders):
+            return True
+        if any(fnmatch.fnmatch(known, f"crates/*/data/{path}.txt") for known in self.files):  # (a table of tests)
             return True
         patterns = [known for known in self.files if fnmatch.fnmatch("/" + known, "*/" + path)] if "*" in path else []
         if patterns:
@@ -527,7 +531,8 @@ FORMATTERS = (["groff", "-ww", "-man", "-Tutf8", "-z", MANUAL_PAGE],
 
 
 def copies():
-    """Lists the files in crates/*/data, but not in its folders, that aren't what examples/, or else a crate before, has under the same name."""
+    """Lists the files in crates/*/data, but not in its folders, that aren't what examples/, or else a crate before, has
+    under the same name."""
     originals = {os.path.basename(path): path for path in sorted(glob.glob(f"{TOP}/examples/**/*", recursive=True))}
     for path in sorted(filter(os.path.isfile, glob.glob(f"{TOP}/crates/*/data/*"))):
         original = originals.setdefault(os.path.basename(path), path)
