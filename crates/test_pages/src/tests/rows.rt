@@ -63,7 +63,7 @@ fn settings_have_rows(rt: HostRuntime) -> Result<(), Fail> {
     check(SETTINGS, &mut Settings { alloc: rt.alloc() })
 }
 
-/// Surveys of faults at PCs that differ, and of one step at the first PC after them.
+/// Surveys of faults at PCs that differ, and of one more step at one of them.
 #[derive(Drop)]
 struct Faults {
     alloc: Global,
@@ -79,7 +79,8 @@ impl Rows for Faults {
                 "L 20000000 4 u mpu none, ! 4 82 0",
             )?;
         }
-        take_step(&mut survey, &start('u', 0, 0), part(row, 1))?;
+        let last = number_at(part(row, 0), 1).unwrap_or(0);
+        take_step(&mut survey, &start('u', 0, last), part(row, 1))?;
         let (mut times, rows) = (0, survey.faults.rows());
         let mut is_refused = false;
         if let Some(fault) = rows.last() {
@@ -94,7 +95,8 @@ impl Rows for Faults {
     }
 }
 
-/// How many PCs have a refused load and its fault each; the events of a step at the first PC after that; how many rows
+/// How many PCs have a refused load and its fault each, and the number of a PC (the first one without a number); the
+/// events of a step there after that; how many rows
 /// there are; how often the last one came; whether it has an access; how many faults there were; what the row is.
 const FAULTS: &str = "\
 0 | L 20000000 4 u ok off | 0 | 0 | no | 0 | nothing is recorded
@@ -113,7 +115,9 @@ const FAULTS: &str = "\
 1 | S 20000000 4 u mpu none, ! 4 82 0 | 2 | 1 | access | 2 | another kind
 2 | L 20000000 4 u mpu none, ! 4 82 0 | 3 | 1 | access | 3 | it doesn't follow the same fault
 40 | | 40 | 1 | access | 40 | 64 faults
-41 | | 40 | 1 | access | 41 | the 65th has no row";
+41 | | 40 | 1 | access | 41 | the 65th has no row
+40 3F | L 20000000 4 u mpu none, ! 4 82 0 | 40 | 2 | access | 41 | the 64th comes again at once
+41 3F | L 20000000 4 u mpu none, ! 4 82 0 | 40 | 1 | access | 42 | after the 65th it counts in no row";
 
 #[test]
 fn faults_have_rows(rt: HostRuntime) -> Result<(), Fail> {
