@@ -45,11 +45,7 @@ pub fn run_lines<L: Lines>(
                     came: format!(in alloc; "{asked} | {came}")?,
                 });
             }
-            Outcome::Unreadable => return Ok(Outcome::differs(
-                alloc,
-                line,
-                "a line that can't be read",
-            )?),
+            Outcome::Unreadable => return Ok(Outcome::unreadable(alloc, line)?),
         }
     }
     Ok(outcome)

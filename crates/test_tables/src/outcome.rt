@@ -15,7 +15,7 @@ pub enum Outcome {
     Holds,
     /// The first line that differs.
     Differs { wanted: String, came: String },
-    /// The row has a line that can't be read, or wants nothing.
+    /// The row can't be read, or wants nothing.
     Unreadable,
 }
 
@@ -31,6 +31,11 @@ impl Outcome {
             wanted: wanted.to_string(alloc)?,
             came: came.to_string(alloc)?,
         })
+    }
+
+    /// Returns the outcome of a row with a line that can't be read.
+    pub fn unreadable(alloc: Global, line: &str) -> Result<Self, AllocError> {
+        Outcome::differs(alloc, line, "a line that can't be read")
     }
 }
 

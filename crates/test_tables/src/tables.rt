@@ -1,5 +1,6 @@
 //! Tables of rows in files. The table KIND/NAME is the file NAME.txt of the folder KIND. Rows have a blank line between
-//! them, or each line is a row, and the first line of a row is its name. A line that begins with `# ` is a comment.
+//! them, or each line is a row, and the first line of a row is its name. The lines after `before each row` stand after
+//! the name of each row that follows. A line that begins with `# ` is a comment.
 
 use super::outcome::Outcome;
 use std::process::ExitCode;
@@ -7,6 +8,9 @@ use std::{env, fs, io};
 
 /// What is printed for words that don't fit.
 const USAGE: &str = "usage: TABLE.. | one TABLE NAME";
+
+/// The first line of what has the lines that stand after the name of each row.
+const BEFORE: &str = "before each row";
 
 /// What checks the rows of each kind of table.
 pub trait Kinds {
@@ -103,25 +107,52 @@ impl<'a> Table<'a> {
         kinds: &mut K,
     ) -> io::Result<()> {
         let has_line_rows = kinds.has_line_rows(self.table);
+        let mut before = String::new(rt.alloc());
         let mut row = String::new(rt.alloc());
         'lines: for line in text.lines() {
             if !line.is_empty() && !is_comment(line) {
+                let is_first = row.is_empty();
                 row.push_str(line)?;
                 row.push('\n')?;
+                if is_first && line != BEFORE {
+                    row.push_str(before.as_str())?;
+                }
             }
             if line.is_empty() || has_line_rows {
-                self.run_row(rt, row.as_str(), kinds)?;
-                row.clear();
+                self.end_row(rt, &mut before, &mut row, kinds)?;
             }
         }
-        self.run_row(rt, row.as_str(), kinds)
+        self.end_row(rt, &mut before, &mut row, kinds)
     }
 
-    /// Runs a row, where it has a line and is one of those that are run.
-    fn run_row<K: Kinds>(&mut self, rt: &HostRuntime, row: &str, kinds: &mut K) -> io::Result<()> {
-        let Some(name) = row.lines().next() else {
-            return Ok(());
-        };
+    /// Runs a row, or keeps its lines as those before each row, and empties it.
+    fn end_row<K: Kinds>(
+        &mut self,
+        rt: &HostRuntime,
+        before: &mut String,
+        row: &mut String,
+        kinds: &mut K,
+    ) -> io::Result<()> {
+        match row.as_str().split_once('\n') {
+            Some((BEFORE, lines)) => {
+                before.clear();
+                before.push_str(lines)?;
+            }
+            Some((name, _)) => self.run_row(rt, name, row.as_str(), kinds)?,
+            None => {}
+        }
+        row.clear();
+        Ok(())
+    }
+
+    /// Runs a row, where it is one of those that are run.
+    fn run_row<K: Kinds>(
+        &mut self,
+        rt: &HostRuntime,
+        name: &str,
+        row: &str,
+        kinds: &mut K,
+    ) -> io::Result<()> {
         if let Some(only) = self.only
             && !name.starts_with(only)
         {
@@ -146,6 +177,7 @@ impl<'a> Table<'a> {
         match (self.only, fail) {
             (Some(name), 0) if hold == 0 => println!(rt; "{table}: no row has the name {name}"),
             (_, 0) if hold == 0 => println!(rt; "{table}: no row"),
+            (_, 0) if hold == 1 => println!(rt; "{table}: 1 row holds"),
             (_, 0) => println!(rt; "{table}: {hold} rows hold"),
             (_, _) => println!(rt; "{table}: {hold} rows hold, {fail} fail"),
         }

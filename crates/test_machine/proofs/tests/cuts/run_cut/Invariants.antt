@@ -1,0 +1,5 @@
+use Rattle.test_machine.proofs.tests.cuts.run_cut.Given as goal
+
+-- the failed calls of the writer are counted in the ledger that `run_cut` opens
+abbrev pub ghosts-run_over : goal.ghosts-run_over
+ghosts-run_over g a = record { name = a.blank.name; parts = a.blank.parts }

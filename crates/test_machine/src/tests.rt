@@ -1,0 +1,15 @@
+mod arguments;
+mod both;
+mod cut;
+mod cut_sessions;
+mod cuts;
+mod files;
+mod growths;
+mod machines;
+mod short_files;
+mod short_messages;
+mod starts;
+mod steps;
+mod tasks;
+mod worlds;
+mod writers;

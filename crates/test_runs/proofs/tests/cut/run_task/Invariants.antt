@@ -1,4 +1,0 @@
-use Rattle.test_runs.proofs.tests.cut.run_task.Given as goal
-
-abbrev pub ghosts-run_task_over : goal.ghosts-run_task_over
-ghosts-run_task_over g a = record { name = a.blank.name; parts = a.blank.parts }
