@@ -21,7 +21,7 @@ abbrev pub no_survey : Survey
 no_survey = record {
   counts = [];
   settings = record { rows = []; used = 0; others = 0 };
-  faults = record { rows = []; used = 0; number = 0; refused = None };
+  faults = record { rows = []; used = 0; number = 0; missed = false; refused = None };
   flash = no_cells;
   ram = no_cells;
   flash_code = no_code;
