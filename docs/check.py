@@ -32,7 +32,7 @@ A call in a block of Rust has as many arguments as a function of its name takes 
 checked too. Without a page, the manual page docs/marm.1 is formatted too, by `groff -ww` and
 `man --warnings` where they are installed: each warning is an error. So is a file in crates/*/data that differs from the
 one of that name in examples/, or in the data of another crate, a command of the debugger that the help or
-docs/DEBUGGING.md leaves out, a named stop that docs/STOPS.md or the images of test_runs leave out, and a page that is
+docs/DEBUGGING.md leaves out, a named stop that docs/STOPS.md or the images of rows leave out, and a page that is
 longer than MAX_LINES says.
 """
 
@@ -53,6 +53,9 @@ TOP = os.path.dirname(os.path.dirname(os.path.abspath(__file__)))
 
 MANUAL_PAGE = "docs/marm.1"
 PYTHON_PAGE = "docs/SCRIPTING.md"
+
+# the page of the words of rows of tests
+ROWS_PAGE = "docs/ROWS.md"
 SCRIPT = "marm"
 
 # ---- what is no name of the repository -------------------------------------------------------------------------
@@ -162,6 +165,7 @@ class Repository:
         self.examples = set()              # every word of examples/, bench/, crosscheck/ and fuzz/
         self.python = set()                # every word of the Python package
         self.texts = set()                 # every word that is written or read
+        self.rows = set()                  # every word that a program of tests writes or reads
         self.of_crate = {}                 # the names of a crate
         self.of_file = {}                  # the names of a file, by its stem: chapters and modules
         self.of_owner = {}                 # the members of a type or a trait
@@ -210,8 +214,7 @@ class Repository:
         self.records.update(RECORD.findall(code))
         reexported = " ".join(re.findall(r"^pub use ([^;]*);", code, re.M))
         found = set(re.findall(r"\w+\b(?!::)", reexported)) | set(ITEM.findall(code)) | set(MACRO.findall(code)) | set(TYPED.findall(code)) | set(VARIANT.findall(code))
-        if not is_test:
-            self.texts.update(words_of_texts(code))
+        (self.rows if is_test else self.texts).update(words_of_texts(code))
         for kind, head, body in BLOCK.findall(code):
             owner = re.sub(r"<[^<>]*>", "", re.sub(r"<[^<>]*>", "", head)).split(" where ")[0].strip()
             trait = None
@@ -236,6 +239,8 @@ class Repository:
         if page in EXAMPLE_PAGES and name in self.examples:
             return True
         if page == PYTHON_PAGE and name.split(".")[-1] in self.python:
+            return True
+        if page == ROWS_PAGE and name in self.rows:
             return True
         return name in self.near(page) or name in self.texts or name in LANGUAGE or name in OUTSIDE
 
@@ -523,7 +528,7 @@ MAX_LINES = {"README.md": 150, "CHANGELOG.md": 120, "CONTRIBUTING.md": 260, "doc
 HELP_OF_DEBUG = "crates/command_line/src/texts.rt"
 
 # the images that end at each named stop
-IMAGES_OF_STOPS = "crates/test_runs/src/tests/named_stops.rt"
+IMAGES_OF_STOPS = "crates/rows/data/command/stops.txt"
 
 # what formats the manual page, and writes its warnings to standard error
 FORMATTERS = (["groff", "-ww", "-man", "-Tutf8", "-z", MANUAL_PAGE],
@@ -571,7 +576,7 @@ def debugger_commands():
 
 
 def stops():
-    """Returns which lists of the named stops leave one out: docs/STOPS.md, or the images of test_runs."""
+    """Returns which lists of the named stops leave one out: docs/STOPS.md, or the images of rows."""
     text = read("crates/platform/specs/Text.antt")
     defined = re.findall(r'^(?:unpredictable|unsupported)_text \w+ = codes "([\w-]+)"', text, re.M)
     parts = read("docs/STOPS.md").split("\n## ")

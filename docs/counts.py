@@ -161,31 +161,12 @@ def tests(crate):
     return sum(len(re.findall(r"^\s*#\[test\]", text_of(path), re.M)) for path in files)
 
 
-def tables(crate, modules):
-    """Yields the texts of the tables that modules of a crate's tests have: `module` for all, `module:NAME` for one."""
-    for module in modules.split():
-        stem, _, name = module.partition(":")
-        (path,) = found(f"crates/{crate}/src/tests/{stem}.rt")
-        texts = re.findall(rf'const {name or "[A-Z_]+"}: &str = "\\\n(.*?)";', text_of(path), re.S)
-        if not texts:
-            raise FileNotFoundError(f"{stem}.rt: {name}")
-        yield from texts
-
-
-def table_lines(crate, modules):
-    return sum(len(table.split("\n")) for table in tables(crate, modules))
-
-
-def cases(crate, modules, between="\n\n"):
-    """Returns how many cases the tables have; a blank line separates two, or what is between them."""
-    return sum(len(table.split(between)) for table in tables(crate, modules))
-
-
 def rows_of(crate, tables):
     """Yields the lines of each row of a crate's tables in files, where a blank line separates two rows."""
     for path in found(*(f"crates/{crate}/data/{table}.txt" for table in tables.split())):
         text = "\n".join(line for line in text_of(path).split("\n") if line != "#" and not line.startswith("# "))
-        yield from (row.strip("\n").split("\n") for row in re.split(r"\n\n+", text) if row.strip("\n"))
+        rows = [row.strip("\n").split("\n") for row in re.split(r"\n\n+", text)]
+        yield from (row for row in rows if row[0] not in ("", "before each row"))
 
 
 def row_count(crate, tables):
@@ -210,7 +191,6 @@ def constant(path, name):
 AGREED = "case/short_data case/short_others case/long_data case/long_others"
 COMPUTING = "case/fields case/moves case/products case/sums"
 ENCODINGS = "decoding/short decoding/long_data decoding/long_control decoding/long_others"
-RUNS = "accesses exclusives handlers instructions special traces"
 
 
 def mutations(folder):
@@ -262,16 +242,18 @@ COUNTS = {
     "other edges": lambda: row_count("instruction_rows", "case/edges"),
     "edge stops": lambda: row_count("instruction_rows", "stop/edges"),
     "register rows": lambda: line_count("instruction_rows", "registers/*"),
-    "runs": lambda: cases("test_runs", RUNS),
-    "device runs": lambda: cases("test_runs", "device_accesses device_lines:LINES"),
-    "faults": lambda: cases("test_runs", "fault_registers:FAULTS"),
-    "stored runs": lambda: cases("test_runs", "files:RUNS board_messages"),
-    "stored images": lambda: cases("test_runs", "stored_faults stored_handlers"),
-    "random images": lambda: constant("crates/test_runs/src/tests/both.rt", "IMAGES"),
-    "refused places": lambda: matches("^refused", "crates/test_runs/src/tests/places.rt"),
+    "whole rows": lambda: row_count("rows", "*/*"),
+    "device runs": lambda: row_count("rows", "machine/devices machine/device_lines"),
+    "faults": lambda: row_count("rows", "machine/faults"),
+    "file rows": lambda: row_count("rows", "command/files"),
+    "board rows": lambda: row_count("rows", "command/boards command/devices"),
+    "stored images": lambda: row_count("rows", "command/faults command/handlers"),
+    "pairs": lambda: row_count("rows", "pair/*"),
+    "random images": lambda: constant("crates/test_machine/src/tests/both.rt", "IMAGES"),
+    "refused places": lambda: matches("^refused", "crates/rows/data/machine/*places.txt"),
     "board texts": board_texts,
-    "sessions": lambda: cases("test_runs", "sessions:SESSIONS"),
-    "answers": lambda: cases("test_runs", "answers:ANSWERS"),
+    "sessions": lambda: row_count("rows", "command/sessions"),
+    "answers": lambda: row_count("rows", "command/answers"),
     "mutations": lambda: mutations("crates/*/must-fail") + mutations("mutations/*"),
     "mutations in CI": lambda: mutations("crates/*/must-fail"),
     "other mutations": lambda: mutations("mutations/*"),
@@ -281,7 +263,7 @@ COUNTS = {
     "lines places": lambda: lines_of(spec("Places")),
 }
 
-for crate in ("test_runs", "test_parts"):
+for crate in ("test_machine", "test_parts"):
     COUNTS[f"tests {crate}"] = lambda crate=crate: tests(crate)
 for part in [*AUDIT_PARTS, "types"]:
     COUNTS[f"lines {part}"] = lambda part=part: audit_lines(part)
