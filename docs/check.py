@@ -85,7 +85,7 @@ take unwrap_or Prelude Type nat_le nat_lt is_some Invariants Answers Proof old n
 OUTSIDE = set("""e_ident EI_CLASS EI_DATA e_type e_machine e_phoff e_phentsize e_phnum e_entry e_version e_flags e_ehsize
 p_type p_offset p_paddr p_filesz p_vaddr p_memsz p_flags p_align MEMORY PHDRS FILEHDR FLASH RAM AT LOADADDR ORIGIN
 PROVIDE KEEP memcpy memmove memset strcmp strstr printf malloc _sbrk _write _exit _read _close _fstat _isatty _lseek
-mps2-an385 lm3s6965evb stm32vldiscovery -singlestep armv7m_nvic_complete_irq start.elf hello-newlib.elf hello-plain.elf objects.cpp preinit_array init_array ARM.exidx ARM.extab arm-none-eabi-size .bss .data setpan setend hi.c /opt/rattle /opt/rattle/bin bin/rattle logic/antt-project.json toolchain/bin/rattle-x64""".split())
+mps2-an385 lm3s6965evb stm32vldiscovery -singlestep armv7m_nvic_complete_irq start.elf hello-newlib.elf hello-plain.elf objects.cpp preinit_array init_array ARM.exidx ARM.extab arm-none-eabi-size .gdbinit .bss .data setpan setend hi.c /opt/rattle /opt/rattle/bin bin/rattle logic/antt-project.json toolchain/bin/rattle-x64""".split())
 
 # instructions and registers of the manual, and words of a trace line
 MANUAL = re.compile(r"""^(R\d+|R\[n\]|[A-Z][A-Z0-9_]+(\.[A-Z0-9_]+)?   # registers, fields, instructions
@@ -99,7 +99,7 @@ name x i f b o z a c s n e d t mmm nnn ddd .. steps""".split())
 
 # pages that speak of examples/, bench/, crosscheck/ and fuzz/ too
 EXAMPLE_PAGES = {
-    f"docs/{name}.md" for name in "FIRMWARE KERNELS BUILDING PERFORMANCE CROSSCHECK AUDIT ROBUSTNESS".split()
+    f"docs/{name}.md" for name in "FIRMWARE GDB KERNELS BUILDING PERFORMANCE CROSSCHECK AUDIT ROBUSTNESS".split()
 }
 
 # what the kit and a shell print or take
