@@ -269,8 +269,8 @@ class Repository:
     def is_in_crate(self, name, crate):
         """Whether a crate has a name, a name of one of its types (`Owner::name`), a file, or a table of tests."""
         if "/" in name or re.search(r"\.[a-z]+$", name):
-            table = f"crates/{crate}/data/{name}.txt"
-            return any(fnmatch.fnmatch(path, table) for path in self.files) or any(path.startswith(f"crates/{crate}/") and path.endswith("/" + name) for path in self.files)
+            forms = (name, f"*/{name}", f"{name}.txt", f"data/{name}.txt", f"{name}/*")
+            return any(fnmatch.fnmatch(path, f"crates/{crate}/{form}") for path in self.files for form in forms)
         parts = re.split(r"::|\.", re.sub(r"[!(<].*", "", name))
         return all(part in self.of_crate.get(crate, set()) or part == crate for part in parts) and (
             len(parts) == 1 or self.has_member(*parts[-2:]))
