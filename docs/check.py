@@ -61,7 +61,7 @@ SCRIPT = "marm"
 # ---- what is no name of the repository -------------------------------------------------------------------------
 
 # programs, and the first words of commands
-COMMANDS = set("""rt make man groff python3 valgrind taskset ld.lld arm-none-eabi-ld arm-none-eabi-gcc clang gcc git apt-get
+COMMANDS = set("""rt make man groff python3 valgrind taskset ld.lld arm-none-eabi-ld arm-none-eabi-gcc clang gcc git apt-get cargo rustup
 llvm-readelf llvm-objdump llvm-mc llvm-objcopy qemu-system-arm readelf awk date ulimit""".split())
 
 # the commands of gdb and its packets, on the pages about it
@@ -188,7 +188,7 @@ class Repository:
             elif path.startswith("python/") and path.endswith((".py", ".toml", ".sh")):
                 self.python.update(re.findall(r"[\w.-]+", read(path)))
                 continue
-            elif path.endswith((".c", ".h", ".s", ".ld", ".py", ".sh", "Makefile", ".toml", ".in")):
+            elif path.endswith((".c", ".h", ".s", ".ld", ".py", ".rs", ".sh", "Makefile", ".toml", ".in")):
                 self.examples.update(re.findall(r"[\w.-]+", read(path)))
                 continue
             else:
