@@ -154,6 +154,8 @@ class Repository:
             while path:
                 path = os.path.dirname(path)
                 self.folders.add(path)
+        # the tables of tests, below crates/*/data
+        self.tables = {match[1] for match in map(re.compile(r"crates/\w+/data/(.*)\.txt$").match, self.files) if match}
         self.crates = [line.split(":")[0] for line in read("crates.txt").splitlines() if re.match(r"[a-z]\w*:", line)]
         of_tests = set(re.findall(r"^([a-z]\w*):", read("crates.txt").partition("\n# Tests\n")[2], re.M))
         self.below = {}                    # the crates and libraries of the kit that a crate is built on
@@ -270,7 +272,7 @@ class Repository:
         """Whether a crate has a name, a name of one of its types (`Owner::name`), a file, or a table of tests."""
         if "/" in name or re.search(r"\.[a-z]+$", name):
             forms = (name, f"*/{name}", f"{name}.txt", f"data/{name}.txt", f"{name}/*")
-            return any(fnmatch.fnmatch(path, f"crates/{crate}/{form}") for path in self.files for form in forms)
+            return any(fnmatch.filter(self.files, f"crates/{crate}/{form}") for form in forms)
         parts = re.split(r"::|\.", re.sub(r"[!(<].*", "", name))
         return all(part in self.of_crate.get(crate, set()) or part == crate for part in parts) and (
             len(parts) == 1 or self.has_member(*parts[-2:]))
@@ -286,13 +288,11 @@ class Repository:
         path = re.sub(r"^\./", "", path).rstrip("/")
         if "NAME" in path:
             path = path.replace("NAME", "*")
-        if any(fnmatch.fnmatch(folder, path) for folder in self.folders):
+        if path in self.folders or path in self.tables:
             return True
-        if any(fnmatch.fnmatch(known, f"crates/*/data/{path}.txt") for known in self.files):  # (a table of tests)
-            return True
-        patterns = [known for known in self.files if fnmatch.fnmatch("/" + known, "*/" + path)] if "*" in path else []
-        if patterns:
-            return True
+        if "*" in path:
+            return (bool(fnmatch.filter(self.folders, path)) or bool(fnmatch.filter(self.tables, path))
+                    or bool(fnmatch.filter(("/" + known for known in self.files), "*/" + path)))
         above = os.path.dirname(page)
         lowest = ("crates", "crates/reference", "crates/platform", "crates/instruction_set")
         for base in ("", above, os.path.join(above, "src"), os.path.join(above, "specs"), *lowest):
