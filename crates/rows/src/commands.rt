@@ -2,8 +2,8 @@
 
 use super::case::Case;
 use super::compared::{compare_err, compare_file, compare_out};
-use super::output::{Input, Output};
 use super::stays;
+use super::streams::{Input, Output};
 use super::words::split_line;
 use command::program;
 use std::fs;

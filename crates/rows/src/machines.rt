@@ -2,8 +2,8 @@
 //! a `Fast` one.
 
 use super::boards::{event, place, place_vectors, scripted};
-use super::output::{Output, run, run_task};
 use super::seen;
+use super::streams::{Output, run, run_task};
 use super::words::{push_line, split_line};
 use instruction_set::unpredictable::UnpredictableCase;
 use machine::{

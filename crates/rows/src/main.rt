@@ -8,11 +8,11 @@ mod commands;
 mod compared;
 mod elf_file;
 mod machines;
-mod output;
 mod pairs;
 mod seen;
 mod sessions;
 mod stays;
+mod streams;
 mod words;
 
 use std::io;

@@ -6,7 +6,7 @@ ghost use Rattle.debugger.specs.Slots.{HaveRoom};
 
 use super::boards::{event, place, scripted, small_board};
 use super::machines::both;
-use super::output::Output;
+use super::streams::Output;
 use super::words::{lines_of, split_line};
 use debugger::{Slots, session};
 use machine::{Decider, Exceptions, Fast, KeptCode, Layout, Machine, Over, Slow, SysTickState};

@@ -2,7 +2,7 @@
 
 use super::boards::small_board;
 use super::machines::both;
-use super::output::{Output, run};
+use super::streams::{Output, run};
 use super::words::lines_of;
 use elf::{Image, load};
 use machine::{

@@ -1,4 +1,4 @@
-use Rattle.rows.proofs.output.run.Given as goal
+use Rattle.rows.proofs.streams.run.Given as goal
 
 abbrev pub ghosts-run_over : goal.ghosts-run_over
 ghosts-run_over g a = record { name = a.blank.name; parts = a.blank.parts }
