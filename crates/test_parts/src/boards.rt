@@ -38,12 +38,14 @@ pub fn verdict_of(row: &str) -> &str {
 /// The text of the lines of a row that begin with a bar, with a line feed between two of them.
 pub fn text_of_row(alloc: Global, row: &str) -> Option<String> {
     let mut text = String::new(alloc);
-    let mut between = "";
+    let mut is_first = true;
     'lines: for line in row.lines() {
         if let Some(line) = line.strip_prefix("|") {
-            text.push_str(between).ok()?;
+            if !is_first {
+                text.push('\n').ok()?;
+            }
+            is_first = false;
             text.push_str(line.strip_prefix(" ").unwrap_or(line)).ok()?;
-            between = "\n";
         }
     }
     Some(text)

@@ -113,16 +113,22 @@ fn beginnings(alloc: Global, row: &str) -> Option<String> {
 /// Returns the outcome of a row that is a listing, and in its last line what the file is.
 fn listing(alloc: Global, row: &str) -> io::Result<Outcome> {
     let mut file = File::new();
-    let mut wanted = "";
-    'lines: for line in row.lines().skip(1) {
-        if !wanted.is_empty() {
+    let mut end = None;
+    'lines: for (place, line) in row.lines().enumerate().skip(1) {
+        if end.is_some() {
             return Ok(Outcome::Unreadable);
         }
         if push_bytes(&mut file, line, ' ').is_none() {
-            wanted = line;
+            end = Some(place);
         }
     }
-    compared(alloc, wanted, answer(alloc, file.as_slice()))
+    match end {
+        Some(place) => {
+            let wanted = row.lines().nth(place).unwrap_or("");
+            compared(alloc, wanted, answer(alloc, file.as_slice()))
+        }
+        None => Ok(Outcome::Unreadable),
+    }
 }
 
 /// Returns the outcome of a row of a table of files.
