@@ -88,10 +88,9 @@ fn compare(rt: &HostRuntime, row: &str, case: &Case, ended: &Ended) -> Option<Ou
 
 /// Compares the files that a row names with what it says of them.
 fn compare_files(rt: &HostRuntime, row: &str) -> Option<Outcome> {
-    let mut last = "";
     'lines: for line in row.lines().skip(1) {
         let path = word(line, 1);
-        if word(line, 0) != "file" || path == last {
+        if word(line, 0) != "file" {
             continue;
         }
         let outcome = if fs::exists(rt, path).ok()? {
@@ -105,7 +104,6 @@ fn compare_files(rt: &HostRuntime, row: &str) -> Option<Outcome> {
         if !outcome.holds() {
             return Some(outcome);
         }
-        last = path;
     }
     Some(Outcome::Holds)
 }
