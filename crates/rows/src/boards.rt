@@ -1,23 +1,24 @@
 //! Machines of the small board, with a script and with values in their places.
 
 use super::elf_file::NO_SEGMENTS;
-use super::words::push_line;
+use super::words::{push_line, split_line};
 use board::read_board;
-use devices::{Device, Poke};
+use devices::Poke;
 use elf::load;
 use machine::{
-    Board, Decider, Exceptions, InterruptNumber, KeptCode, Layout, Machine, Place, PlaceError,
-    RegionCount, SMALL_BOARD, ScriptedEvent, Signal, SysTickState,
+    Board, Decider, Exceptions, InterruptNumber, KeptCode, Machine, Place, PlaceError,
+    ScriptedEvent, Signal, SysTickState,
 };
-use platform::board::SecondRam;
 use platform::exception::MAX_INTERRUPTS;
-use platform::mpu::MAX_REGIONS;
 use std::alloc::{AllocError, Global};
 use test_tables::{byte_at, number_at, word};
 
 /// The small board: 4 KiB of flash at 0 and 8 KiB of RAM.
 pub const SMALL: &str =
     "flash_base = 0\nflash_size = 4096\nram_size = 8192\npriority_bits = 4\nlines = 8\n";
+
+/// The same without its lines.
+const MEMORY: &str = "flash_base = 0\nflash_size = 4096\nram_size = 8192\npriority_bits = 4\n";
 
 /// The interrupt line that an event is on, if there can be one of its number.
 fn interrupt_number(line: &str) -> Option<InterruptNumber> {
@@ -79,89 +80,40 @@ fn script(alloc: Global, text: &str) -> Result<Vec<ScriptedEvent>, AllocError> {
     Ok(script)
 }
 
-/// The small board with the numbers of a line `board INTERRUPTS REGIONS`, if there can be such a board.
-fn board_of(line: &str) -> Option<Layout> {
-    let interrupts = byte_at(line, 1)?;
-    if interrupts > MAX_INTERRUPTS {
-        return None;
-    }
-    let regions = if byte_at(line, 2)? == MAX_REGIONS {
-        RegionCount::Sixteen
-    } else {
-        RegionCount::Eight
-    };
-    Some(Layout {
-        flash_base: 0,
-        flash_size: 4096,
-        ram_size: 8192,
-        second_ram: None,
-        priority_bits: 4,
-        interrupts,
-        regions,
-    })
-}
+/// A second RAM of 8 KiB at 0x10000000.
+const SECOND_RAM: &str = "ram = [{ base = 0x1000_0000, size = 0x2000 }]\n";
 
-/// The small board with a second RAM of 8 KiB at 0x10000000.
-const SECOND_RAM_BOARD: Layout = Layout {
-    flash_base: 0,
-    flash_size: 4096,
-    ram_size: 8192,
-    second_ram: Some(SecondRam {
-        base: 0x1000_0000,
-        size: 0x2000,
-    }),
-    priority_bits: 4,
-    interrupts: 8,
-    regions: RegionCount::Eight,
-};
-
-/// The small board, or that of a line `board` or `second`.
-fn layout(text: &str) -> Layout {
-    'lines: for line in text.lines().skip(1) {
-        if word(line, 0) == "second" {
-            return SECOND_RAM_BOARD;
-        }
-        if word(line, 0) == "board" {
-            return board_of(line).unwrap_or(SMALL_BOARD);
+/// The text of the small board with what the lines `board`, `second` and `device` of a row say.
+fn board_text(alloc: Global, row: &str) -> Option<String> {
+    let (mut lines, mut regions) = (8, 8);
+    let mut second = "";
+    let mut devices = String::new(alloc);
+    'lines: for line in row.lines().skip(1) {
+        let (name, rest) = split_line(line);
+        match name {
+            "board" => {
+                lines = number_at(rest, 0)?;
+                regions = number_at(rest, 1)?;
+            }
+            "second" => second = SECOND_RAM,
+            "device" => {
+                push_line(&mut devices, rest)?;
+                push_line(&mut devices, ",")?;
+            }
+            _ => {}
         }
     }
-    SMALL_BOARD
+    let devices = devices.as_str();
+    format!(in alloc;
+        "{MEMORY}lines = {lines}\nregions = {regions}\n{second}device = [{devices}]\n"
+    ).ok()
 }
 
-/// The tables of the devices of these lines, each with a comma after it.
-fn device_tables(alloc: Global, text: &str) -> Option<String> {
-    let mut tables = String::new(alloc);
-    'lines: for line in text.lines().skip(1) {
-        if let Some(table) = line.strip_prefix("device ") {
-            push_line(&mut tables, table)?;
-            push_line(&mut tables, ",")?;
-        }
-    }
-    Some(tables)
-}
-
-/// The devices of these lines, which have their tables as a board's file has them.
-fn devices(alloc: Global, text: &str) -> Option<Vec<Device>> {
-    let tables = device_tables(alloc, text)?;
-    if tables.is_empty() {
-        return Some(Vec::new(alloc));
-    }
-    let mut file = String::new(alloc);
-    file.push_str(SMALL).ok()?;
-    push_line(&mut file, "device = [")?;
-    file.push_str(tables.as_str()).ok()?;
-    push_line(&mut file, "]")?;
-    let board = read_board(alloc, file.as_str()).ok()?;
-    Some(board.devices)
-}
-
-/// The small board with the events, the numbers and the devices of these lines.
-pub fn small_board(alloc: Global, text: &str) -> Option<Board> {
-    Some(Board {
-        layout: layout(text),
-        events: script(alloc, text).ok()?,
-        devices: devices(alloc, text)?,
-    })
+/// The small board with the events, the numbers and the devices of a row.
+pub fn small_board(alloc: Global, row: &str) -> Option<Board> {
+    let mut board = read_board(alloc, board_text(alloc, row)?.as_str()).ok()?;
+    board.events = script(alloc, row).ok()?;
+    Some(board)
 }
 
 /// Places an address at each entry of the vector table from that of NMI to that of line 7.

@@ -52,12 +52,12 @@ impl Case {
         self.status
     }
 
-    /// The bytes of the board.
-    pub fn board(&self) -> &[u8] {
+    /// The text of the board.
+    pub fn board(&self) -> &str {
         if self.board.is_empty() {
-            SMALL.as_bytes()
+            SMALL
         } else {
-            self.board.as_bytes()
+            self.board.as_str()
         }
     }
 

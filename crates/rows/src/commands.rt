@@ -45,7 +45,7 @@ pub fn check(rt: &HostRuntime, row: &str) -> Option<Outcome> {
         }
     }
     if case.stays {
-        return stays::check(alloc, row, image.as_slice());
+        return stays::check(alloc, row, image.as_slice(), case.board());
     }
     Some(Outcome::Holds)
 }

@@ -2,6 +2,7 @@
 
 use super::boards::scripted;
 use super::machines::{Run, both};
+use super::seen::shown;
 use super::words::{push_line, split_line};
 use machine::{Decider, Exceptions, Fast, KeptCode, Machine, Place, RegValues, Slow, SysTickState};
 use std::alloc::Global;
@@ -72,29 +73,14 @@ fn agree<D: Decider, C: KeptCode, L: Exceptions, U: SysTickState>(
         && bytes_agree(one, two, hidden, 0x2000_0000)
 }
 
-/// Returns whether a machine has a word at an address.
-fn has_word<D: Decider, C: KeptCode, L: Exceptions, U: SysTickState>(
-    machine: &Machine<D, C, L, U>,
-    address: u32,
-    value: u32,
-) -> bool {
-    let [first, second, third, fourth] = value.to_le_bytes();
-    machine.byte(address) == Some(first)
-        && machine.byte(address.wrapping_add(1)) == Some(second)
-        && machine.byte(address.wrapping_add(2)) == Some(third)
-        && machine.byte(address.wrapping_add(3)) == Some(fourth)
-}
-
 /// Runs of two machines, which may differ in the word at an address.
 #[derive(Drop)]
 struct Pair<D: Decider, C: KeptCode, L: Exceptions, U: SysTickState> {
     alloc: Global,
     one: Run<D, C, L, U>,
     two: Run<D, C, L, U>,
-    /// The address of the word, where they differ.
-    place: Option<u32>,
-    /// Both words.
-    words: [u32; 2],
+    /// The address, the word of the first machine and that of the second, where they differ.
+    words: Option<[u32; 3]>,
     is_visible: bool,
     /// Whether the first machine alone runs tasks.
     is_alone: bool,
@@ -106,8 +92,7 @@ impl<D: Decider, C: KeptCode, L: Exceptions, U: SysTickState> Pair<D, C, L, U> {
             alloc,
             one: Run::new(alloc, one),
             two: Run::new(alloc, two),
-            place: None,
-            words: [0; 2],
+            words: None,
             is_visible: false,
             is_alone: false,
         }
@@ -153,23 +138,24 @@ impl<D: Decider, C: KeptCode, L: Exceptions, U: SysTickState> Pair<D, C, L, U> {
         self.two.follow(line)
     }
 
-    /// Places both words: an address, the word of the first machine, and that of the second.
-    fn place_words(&mut self, numbers: [u32; 3]) -> Option<()> {
-        let [address, first, second] = numbers;
-        self.place = Some(address);
-        self.words = [first, second];
+    /// Places both words.
+    fn place_words(&mut self, words: [u32; 3]) -> Option<()> {
+        let [address, first, second] = words;
+        self.words = Some(words);
         self.one.machine.place(Place::Word(address, first)).ok()?;
         self.two.machine.place(Place::Word(address, second)).ok()
     }
 
-    /// Returns whether the words are as they were placed.
-    fn has_words(&self) -> bool {
-        match self.place {
-            Some(address) => {
-                has_word(&self.one.machine, address, self.words[0])
-                    && has_word(&self.two.machine, address, self.words[1])
+    /// Returns whether the machines agree, but for the words, which are as they were placed.
+    fn agrees(&self) -> bool {
+        let (one, two) = (&self.one.machine, &self.two.machine);
+        match self.words {
+            Some([address, first, second]) => {
+                agree(one, two, Some(address))
+                    && shown(one, address) == Some(first)
+                    && shown(two, address) == Some(second)
             }
-            None => true,
+            None => agree(one, two, None),
         }
     }
 
@@ -185,8 +171,7 @@ impl<D: Decider, C: KeptCode, L: Exceptions, U: SysTickState> Pair<D, C, L, U> {
             return Some(outcome);
         }
         let alike = self.one.out.text.as_slice() == self.two.out.text.as_slice();
-        let agree = agree(&self.one.machine, &self.two.machine, self.place) && self.has_words();
-        match (self.is_visible, alike, agree) {
+        match (self.is_visible, alike, self.agrees()) {
             (true, false, _) | (false, true, true) => Some(Outcome::Holds),
             (true, true, _) => self.differs("both machines write the same"),
             (false, false, _) => self.differs("the machines write different lines"),

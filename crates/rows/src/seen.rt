@@ -86,7 +86,7 @@ fn register(values: &RegValues, name: &str) -> Option<u32> {
 }
 
 /// The word that a debugger shows at an address, if memory or a device has all of it.
-fn shown<D: Decider, C: KeptCode, L: Exceptions, U: SysTickState>(
+pub fn shown<D: Decider, C: KeptCode, L: Exceptions, U: SysTickState>(
     machine: &Machine<D, C, L, U>,
     address: u32,
 ) -> Option<u32> {

@@ -1,9 +1,9 @@
 //! Both machines at a named stop: they write the lines of a row in its command's stead, and stay there.
 
-use super::boards::small_board;
 use super::machines::both;
 use super::streams::{Output, run};
 use super::words::lines_of;
+use board::read_board;
 use elf::{Image, load};
 use machine::{
     Decider, Events, Exceptions, Fast, KeptCode, Machine, Place, PlaceError, Slow, SysTickState,
@@ -15,10 +15,10 @@ use test_tables::{Outcome, first_difference_of_bytes};
 /// The most steps of a run.
 const STEPS: u32 = 10;
 
-/// Runs both machines with the image of a row.
-pub fn check(alloc: Global, row: &str, image: &[u8]) -> Option<Outcome> {
+/// Runs both machines with the image and the board of a row.
+pub fn check(alloc: Global, row: &str, image: &[u8], board: &str) -> Option<Outcome> {
     let image: Image<'_> = load(image).ok()?;
-    let board = small_board(alloc, row)?;
+    let board = read_board(alloc, board).ok()?;
     let wanted = lines_of(alloc, row, "out")?;
     let mut slow = Slow::new(alloc, &image, &board).ok()?;
     let mut fast = Fast::new(alloc, &image, &board).ok()?;
