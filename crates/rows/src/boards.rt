@@ -86,7 +86,7 @@ const SECOND_RAM: &str = "ram = [{ base = 0x1000_0000, size = 0x2000 }]\n";
 /// The text of the small board with what the lines `board`, `second` and `device` of a row say.
 fn board_text(alloc: Global, row: &str) -> Option<String> {
     let (mut lines, mut regions) = (8, 8);
-    let mut second = "";
+    let mut has_second = false;
     let mut devices = String::new(alloc);
     'lines: for line in row.lines().skip(1) {
         let (name, rest) = split_line(line);
@@ -95,7 +95,7 @@ fn board_text(alloc: Global, row: &str) -> Option<String> {
                 lines = number_at(rest, 0)?;
                 regions = number_at(rest, 1)?;
             }
-            "second" => second = SECOND_RAM,
+            "second" => has_second = true,
             "device" => {
                 push_line(&mut devices, rest)?;
                 push_line(&mut devices, ",")?;
@@ -103,6 +103,7 @@ fn board_text(alloc: Global, row: &str) -> Option<String> {
             _ => {}
         }
     }
+    let second = if has_second { SECOND_RAM } else { "" };
     let devices = devices.as_str();
     format!(in alloc;
         "{MEMORY}lines = {lines}\nregions = {regions}\n{second}device = [{devices}]\n"
