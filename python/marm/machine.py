@@ -195,23 +195,21 @@ class Machine:
 
     def pulse(self, line: int) -> None:
         """Pulses an interrupt line: in the next tick, as an event of the board's script. PlaceRefused where the board
-        has no such line, and where the machine has stopped."""
-        self._signal("pulse", line)
+        has no such line (True and False are none), where a device drives it, and where the machine has stopped;
+        TypeError where `line` is no integer."""
+        requests.signal(self._session, "pulse", line)
 
     def rise(self, line: int) -> None:
         """Raises an interrupt line, which stays high; as `pulse`."""
-        self._signal("rise", line)
+        requests.signal(self._session, "rise", line)
 
     def fall(self, line: int) -> None:
         """Lowers an interrupt line; as `pulse`."""
-        self._signal("fall", line)
+        requests.signal(self._session, "fall", line)
 
     def nmi(self) -> None:
         """Makes NMI pending in the next tick. PlaceRefused where the machine has stopped."""
-        requests.signal(self._session, "nmi", True)
-
-    def _signal(self, what: str, line: int) -> None:
-        requests.signal(self._session, f"{what} {line}", 0 <= line < self.lines)
+        requests.signal_nmi(self._session)
 
     # ---- decisions ---------------------------------------------------------------------------------------------------
 

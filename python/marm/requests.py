@@ -19,6 +19,7 @@ MAX_STEPS = 1_000_000  # of one command
 SHORT_RUN = 1_000  # steps
 GRANULE = 32  # each region and each subregion begins and ends at a multiple of it
 TRACES = ("all", "refused", "exceptions", "console")
+NO_SUCH_PLACE = (2, "NoSuchPlace")  # the number and the name of a refusal
 
 NUMBERS = {**{f"r{k}": k for k in range(13)}, "sp": 13, "lr": 14, "pc": 15}
 SPECIALS = {"xpsr": 3, "msp": 8, "psp": 9, "primask": 16, "basepri": 17, "faultmask": 19, "control": 20}
@@ -85,24 +86,48 @@ def placing_word(session: Session, address: int, value: int) -> Request[None]:
 
 
 def _word(value: int) -> int:
-    number = operator.index(value)
+    number = int(operator.index(value))
     if not 0 <= number < 2**32:
         raise ValueError(f"{value} isn't a word, from 0 to 0xFFFFFFFF")
     return number
 
 
 def signalling(session: Session, what: str, line: int) -> Request[None]:
-    """Signals what an event of the board's script does."""
-    return putting(session, f"signal {what} {line}")
+    """Signals what an event of the board's script does: `pulse`, `rise` or `fall` of an interrupt line. TypeError where
+    `line` is no integer."""
+    number = int(operator.index(line))
+    if 0 <= number < 2**32 and not isinstance(line, bool):
+        return putting(session, f"signal {what} {number}")
+
+    def refuse(_: Sequence[Answer]) -> None:
+        raise PlaceRefused(f"signal {what} {line}", *NO_SUCH_PLACE)
+
+    return Request((), refuse)  # the program takes no such number, and no board has such a line
 
 
-def signal(session: Session, what: str, is_there: bool) -> None:
-    """Signals what an event of the board's script does, `pulse 0` say. Where the board has that line and the machine
-    hasn't stopped, nothing can refuse it: it goes out with the next command."""
+def signal(session: Session, what: str, line: int) -> None:
+    """Signals what an event of the board's script does to an interrupt line.
+
+    Whether a device drives the line is known by the first answer. Where none does and the machine hasn't stopped,
+    nothing can refuse a later signal: it goes out with the next command."""
     session.settle()
-    command = f"signal {what}"
-    if session.place.stop is not None or not is_there:
-        return session.do(putting(session, command))
+    request = signalling(session, what, line)
+    session.wire.check()
+    if request.commands and line in session.free_lines and session.place.stop is None:
+        return _owe_signal(session, request.commands[0])
+    session.do(request)
+    session.free_lines.add(line)
+
+
+def signal_nmi(session: Session) -> None:
+    """Makes NMI pending: by the next command, as long as the machine hasn't stopped."""
+    session.settle()
+    if session.place.stop is None:
+        return _owe_signal(session, "signal nmi")
+    session.do(putting(session, "signal nmi"))
+
+
+def _owe_signal(session: Session, command: str) -> None:
     session.owe(command)
     session.log.append((session.place.tick, command))
 

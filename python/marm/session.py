@@ -68,6 +68,7 @@ class Session:
         self.registers: Optional[dict[str, int]] = None  # those of now, where they were asked for
         self.ahead: Optional[Ahead] = None
         self.free_slots: list[int] = []
+        self.free_lines: set[int] = set()  # interrupt lines that no device drives, as far as is known
         self.end_before = ""  # the end line before the answers that are being read
         self._owed: list[str] = []  # commands that are answered `ok`, and go out with the next ones
         self._settings: Optional[Settings] = None

@@ -13,6 +13,7 @@ from . import laws
 from .support import KERNELS, kernel, needs_program
 
 STORE = 2738  # the tick of task c's store to task a's memory
+LOOP = marm.build_image({0: bytes.fromhex("00040020 09000000 fee7")})  # B .
 
 
 @needs_program
@@ -181,6 +182,53 @@ class Faults(laws.Laws):
 
     def make(self) -> marm.Machine:
         return kernel("faults", "nested")
+
+
+@needs_program
+class Lines(unittest.TestCase):
+    """Signals of lines of which a device drives one."""
+
+    def setUp(self) -> None:
+        device = marm.Device(0x4000_0000, 8, line=0, enable=0x4000_0004)
+        self.m = marm.Machine(LOOP, marm.Board(1024, 1024, lines=3, devices=(device,)))
+        self.addCleanup(self.m.close)
+
+    def test_a_line_that_a_device_drives(self) -> None:
+        """It takes no signal, at the call, and the machine goes on."""
+        m = self.m
+        for name in ("pulse", "rise", "fall"):
+            for line in (0, 3, -1, True, m.lines + 2**32):
+                with self.assertRaises(marm.PlaceRefused) as caught:
+                    getattr(m, name)(line)
+                self.assertEqual((caught.exception.number, caught.exception.name), (2, "NoSuchPlace"))
+        for _ in range(2):
+            m.pulse(1)
+            m.rise(2)
+            m.fall(2)
+        self.assertEqual((m.run(3).steps, m.state().pending), (3, {17, 18}))
+
+    def test_words_of_a_device(self) -> None:
+        """They are read and placed as memory is: it raises its line here. A register of the core isn't memory."""
+        m = self.m
+        m.write(0x4000_0002, b"\1\2\3\4")
+        self.assertEqual((m.read(0x4000_0000, 8), m.read_word(0x4000_0004)), (b"\0\0\1\2\3\4\0\0", 0x0403))
+        m.write_word(0x4000_0000, 3)
+        m.run(1)
+        self.assertEqual((m.read_word(0x4000_0000), m.state().pending), (3, {16}))
+        for address in (0x3FFF_FFFF, 0x4000_0005, 0xE000_ED94):
+            with self.assertRaises(marm.NotMemory):
+                m.read(address, 4)
+
+
+@needs_program
+class Runs(unittest.TestCase):
+    def test_a_run_of_several_parts(self) -> None:
+        """It makes the steps that were asked for, and no more."""
+        with marm.Machine(LOOP, marm.Board(1024, 1024), timeout=600.0) as m:
+            ran = m.run(150_000)
+            self.assertEqual((ran.steps, ran.tick, m.tick), (150_000, 150_000, 150_000))
+            ran = m.run(30_000, trace="all")
+            self.assertEqual((ran.steps, ran.tick, m.tick, len(ran.lines)), (30_000, 180_000, 180_000, 30_000))
 
 
 @needs_program

@@ -27,7 +27,7 @@ class Toys(laws.Laws):
     def test_start(self) -> None:
         m = self.m
         self.assertEqual((m.tick, m.pc, m.next, m.stop), (0, 0x100, "Instruction", None))
-        self.assertEqual((m.flash, m.ram, m.lines), (range(1024), range(0x2000_0000, 0x2000_0400), 2))
+        self.assertEqual((m.flash, m.ram, m.lines), (range(1024), range(0x2000_0000, 0x2000_0400), 3))
         self.assertEqual(repr(m), "<marm.Machine at tick 0, pc 00000100, Instruction>")
 
     def test_registers(self) -> None:
@@ -109,9 +109,41 @@ class Toys(laws.Laws):
             b.pulse(0), b.rise(0), b.fall(0), b.nmi()
         self.assertEqual([m.run_to(marm.ENTRY).tick for _ in range(3)], [4, 5, 6])
 
+    def test_lines_that_take_no_signal(self) -> None:
+        """One that a device drives, and numbers of no line: refused at the call, alone and in a batch, and the machine
+        goes on."""
+        m = self.m
+        for name in ("pulse", "rise", "fall"):
+            for line in (2, 3, 2**32 - 1, 2**32, m.lines + 2**32, -1, True, False):
+                for _ in range(2):
+                    with self.assertRaises(marm.PlaceRefused) as caught:
+                        getattr(m, name)(line)
+                    error = caught.exception
+                    self.assertEqual((error.command, error.number, error.name, error.stop),
+                                     (f"signal {name} {line}", 2, "NoSuchPlace", None))
+                batch = m.batch()
+                refused, ran = getattr(batch, name)(line), batch.run(1)
+                with self.assertRaises(marm.PlaceRefused) as caught:
+                    batch.send()
+                self.assertEqual((str(refused.error), ran.value.steps), (str(error), 1))
+            for other in ("0", 1.0, None):
+                with self.assertRaises(TypeError):
+                    getattr(m, name)(other)
+        self.assertEqual((m.tick, m.read_word(0x2000_0100), m.is_lost), (24, 0, False))
+        m.pulse(1)
+        self.assertEqual(m.run_to(marm.ENTRY).tick, 25)
+        m.run()
+        with self.assertRaises(marm.PlaceRefused) as caught:
+            m.pulse(1)
+        self.assertEqual(caught.exception.name, "Stopped")
+
     def test_a_restore_and_a_signal_go_out_with_the_next_command(self) -> None:
+        """From the second signal of a line on: the first answer says that no device drives it."""
         m = self.m
         saved = m.save()
+        m.pulse(0)
+        m.rise(1)
+        m.restore(saved)
         with mock.patch.object(m._wire, "exchange", wraps=m._wire.exchange) as exchange:
             m.run(30)
             m.restore(saved)
@@ -121,7 +153,7 @@ class Toys(laws.Laws):
             self.assertEqual(m.run(1, trace="exceptions").lines, ["1 X 16"])
             self.assertEqual(exchange.call_count, 2)
             m.rise(1)
-            self.assertEqual((m.next, exchange.call_count), ("Instruction", 3))
+            self.assertEqual((m.next, exchange.call_count), ("Stack", 3))
             with self.assertRaises(marm.PlaceRefused):
                 m.rise(2)
             self.assertEqual(exchange.call_count, 4)

@@ -2,7 +2,8 @@
 """A program that speaks the protocol of `marm debug` over a machine that is no ARM: for tests of the package alone.
 
 Each step counts in R0. Some steps store it, load, print a letter, or are refused, by the tick alone; a signal enters a
-handler, which counts in a word. After 1,000 steps the machine stops."""
+handler, which counts in a word. After 1,000 steps the machine stops. Of its three interrupt lines a device drives the
+last."""
 
 from __future__ import annotations
 
@@ -13,6 +14,7 @@ from typing import Callable, Optional
 FLASH, RAM, SIZE = 0, 0x2000_0000, 1024
 COUNT = RAM + 0x100  # the word that handlers count in
 LAST = 1000
+LINES, FREE_LINES = 3, 2
 SPECIALS = {3: "XPSR", 8: "MSP", 9: "PSP", 16: "PRIMASK", 17: "BASEPRI", 19: "FAULTMASK", 20: "CONTROL"}
 
 
@@ -92,10 +94,12 @@ class Session:
             return "error 2\n"
         memory = f"flash {FLASH:08X} {SIZE}\nram {RAM:08X} {SIZE}\n"
         slots = f"slots {len(self.slots)}\nmore than a client knows\nmore\n"
-        return "script 1\n" + memory + "priority_bits 4\nlines 2\nregions 8\n" + slots
+        return "script 1\n" + memory + f"priority_bits 4\nlines {LINES}\nregions 8\n" + slots
 
     def do_next(self) -> str:
-        return f"stop {self.toy.stop}\n" if self.toy.stop else "Instruction\n"
+        if self.toy.stop:
+            return f"stop {self.toy.stop}\n"
+        return "Stack\n" if self.toy.signalled else "Instruction\n"
 
     def do_trace(self, which: str) -> str:
         self.trace = which
@@ -143,7 +147,7 @@ class Session:
         for k in range(int(count)):
             if toy.stop or hit:
                 break
-            if k and toy.registers["PC"] in self.breaks:
+            if k and toy.registers["PC"] in self.breaks and not toy.signalled:
                 hit = "break"
                 break
             for event in toy.step():
@@ -186,8 +190,10 @@ class Session:
     def do_signal(self, what: str, line: str = "0") -> str:
         if what not in ("pulse", "rise", "fall", "nmi"):
             return "error 2\n"
-        if int(line) > 1 or self.toy.stop:
-            return "refused 2 NoSuchPlace\n" if int(line) > 1 else "refused 3 Stopped\n"
+        if not line.isdecimal() or int(line) >= 2**32:
+            return "error 2\n"
+        if int(line) >= FREE_LINES or self.toy.stop:
+            return "refused 2 NoSuchPlace\n" if int(line) >= FREE_LINES else "refused 3 Stopped\n"
         self.toy.signalled += what != "fall"
         return "ok\n"
 
