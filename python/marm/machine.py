@@ -14,7 +14,7 @@ from .boards import Board, Path
 from .conditions import Address, Condition, Until, conditions_of
 from .errors import NotReached, ProtocolError
 from .events import Console, Event, Stop
-from .images import symbols_of
+from .images import Symbols
 from .registers import Registers
 from .results import Decision, Ran, Region, Span, State
 from .session import Request, Saved, Session
@@ -51,7 +51,7 @@ class Machine:
         command = [*find_program(program), "debug", "--slots", str(slots + OWN_SLOTS)]
         self.image: Union[bytes, str] = image if isinstance(image, bytes) else os.fspath(image)
         board_file: Union[bytes, str] = board.toml().encode() if isinstance(board, Board) else os.fspath(board)
-        self._symbols: Optional[dict[str, int]] = None
+        self._symbols: Optional[Symbols] = None
         self._wire = Wire(command, board_file, self.image, timeout)
         try:
             self._session = Session(self._wire)
@@ -148,10 +148,13 @@ class Machine:
 
     @property
     def symbols(self) -> Mapping[str, int]:
-        """The symbols of the image, functions without their Thumb bit."""
-        if self._symbols is None:
-            self._symbols = symbols_of(_bytes_of(self.image))
-        return self._symbols
+        """The addresses of the symbols of the image, functions without their Thumb bit."""
+        return self._table.addresses
+
+    @property
+    def sizes(self) -> Mapping[str, int]:
+        """How many bytes each of `symbols` has; 0 where the image doesn't say."""
+        return self._table.sizes
 
     def address(self, of: Address) -> int:
         """Returns the address of a symbol, or the integer as it is. KeyError where the image has no such symbol."""
@@ -160,6 +163,17 @@ class Machine:
         if of not in self.symbols:
             raise KeyError(f"the image has no symbol {of!r}")
         return self.symbols[of]
+
+    def symbol_at(self, address: int) -> Optional[str]:
+        """Returns the symbol that covers an address, and how far into it that is: `task_c + 0x1C`. None where no symbol
+        does."""
+        return self._table.name_at(address)
+
+    @property
+    def _table(self) -> Symbols:
+        if self._symbols is None:
+            self._symbols = Symbols(_bytes_of(self.image))
+        return self._symbols
 
     # ---- memory ------------------------------------------------------------------------------------------------------
 

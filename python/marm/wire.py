@@ -14,9 +14,11 @@ from typing import IO, NamedTuple, NoReturn, Optional, Sequence, Union
 
 from .errors import Dead, Hung, MarmError, NoProgram, ProtocolError, StartError
 
+__tracebackhide__ = True  # pytest shows no frame of the package
+
 VERSION = 1
 READ_SIZE = 1 << 16
-LONGEST_ANSWER = 1 << 28  # in bytes; a command of the package has answers far below
+LONGEST_ANSWER = 1 << 28  # in bytes: of the calls' answers only that of a batch's run with all lines may come near it
 
 Program = Union[str, Sequence[str], None]
 
@@ -70,6 +72,7 @@ class Wire:
         self._has_answered = False
         self._rest = b""  # the beginning of a line
         self._lines: list[str] = []  # of the answer that is arriving
+        self._arrived = 0  # its bytes
         self._lock = threading.Lock()
         self._owner = os.getpid()
         self._files = _Files()
@@ -148,14 +151,17 @@ class Wire:
         deadline = time.monotonic() + self.timeout
         while len(answers) < count:
             poll = self._both if waiting else self._reader
-            ready = poll.poll(max(0.0, deadline - time.monotonic()) * 1000)
-            if not ready and time.monotonic() >= deadline:
-                self.fail(Hung(self.timeout, commands[len(answers)]))
-            for descriptor, _ in ready:
+            has_answer = False
+            for descriptor, _ in poll.poll(max(0.0, deadline - time.monotonic()) * 1000):
                 if descriptor == self._in:
                     waiting = self._write(waiting)
-                elif self._read(answers):
-                    deadline = time.monotonic() + self.timeout
+                else:
+                    has_answer = self._read(answers)
+            now = time.monotonic()
+            if has_answer:
+                deadline = now + self.timeout
+            elif now >= deadline:
+                self.fail(Hung(self.timeout, commands[len(answers)]))
         if len(answers) > count or self._lines or self._rest:
             self.fail(ProtocolError("the program answered more than it was asked"))
         return answers
@@ -174,6 +180,7 @@ class Wire:
         data = os.read(self._out, READ_SIZE)
         if not data:
             self.fail(self._ended())
+        self._arrived += len(data)
         if self._rest:
             data = self._rest + data
         whole, feed, self._rest = data.rpartition(b"\n")
@@ -190,9 +197,12 @@ class Wire:
                 self._lines.append(line)
         if not self._has_answered:
             self._check_start(answers)
-        if len(self._lines) * 8 > LONGEST_ANSWER:
-            self.fail(ProtocolError("an answer has no end"))
-        return len(answers) > before
+        has_answer = len(answers) > before
+        if has_answer:
+            self._arrived = 0
+        elif self._arrived > LONGEST_ANSWER:
+            self.fail(ProtocolError(f"an answer has more than {LONGEST_ANSWER} bytes"))
+        return has_answer
 
     def _check_start(self, answers: list[Answer]) -> None:
         """A program without scripts answers an error, and no end line follows."""

@@ -4,9 +4,11 @@ from __future__ import annotations
 
 import os
 import shutil
+import struct
 import sys
 import unittest
 from pathlib import Path
+from typing import Sequence
 
 import marm
 
@@ -31,3 +33,27 @@ def kernel(name: str, board: str = "") -> marm.Machine:
 def toy(slots: int = 4) -> marm.Machine:
     """Returns a toy machine, which needs no program."""
     return marm.Machine(b"", "none.toml", program=[sys.executable, str(PACKAGE / "tests" / "toy.py")], slots=slots)
+
+
+NO_TYPE, OBJECT, FUNCTION = 0, 1, 2  # of a symbol
+GLOBAL = 16  # added to a type
+ABSOLUTE = 0xFFF1  # a section
+
+
+def image_with(*symbols: tuple[str, int, int, int, int]) -> bytes:
+    """Returns an ELF file with a symbol table and nothing else, of a name, an address, a size, a type and a section
+    each."""
+    strings, rows = b"\0", []
+    for name, *rest in symbols:
+        rows.append((len(strings), *rest))
+        strings += name.encode() + b"\0"
+    return image_with_table(strings, rows)
+
+
+def image_with_table(strings: bytes, rows: Sequence[tuple[int, ...]]) -> bytes:
+    """Returns the same of a string table, and of symbols whose names are offsets into it."""
+    table = b"".join([struct.pack("<IIIBBH", name, at, size, kind, 0, index) for name, at, size, kind, index in rows])
+    sections = [(0, 0, 0), (2, 172, len(table)), (3, 172 + len(table), len(strings))]  # type, offset, size
+    headers = b"".join([struct.pack("<10I", 0, kind, 0, 0, at, size, 2, 0, 0, 0) for kind, at, size in sections])
+    header = b"\x7fELF\x01\x01\x01".ljust(32, b"\0") + struct.pack("<I", 52) + bytes(10) + struct.pack("<HHH", 40, 3, 2)
+    return header + headers + table + strings

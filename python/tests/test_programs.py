@@ -9,9 +9,10 @@ import sys
 import time
 import unittest
 from typing import Callable
+from unittest import mock
 
 import marm
-from marm.wire import Wire
+from marm.wire import Answer, Wire
 
 HEAD = """import os, sys, time
 def say(text): sys.stdout.write(text); sys.stdout.flush()
@@ -100,6 +101,46 @@ class Programs(unittest.TestCase):
         m = self.machine(STARTED + "hear()\nwhile True: say('1 O 61\\n'); time.sleep(0.02)", 0.5)
         self.within(5, m.step)
 
+    def test_answers_fast_without_an_end(self) -> None:
+        """The time is up though there is always something to be read."""
+        m = self.machine(STARTED + "hear()\nos.execvp('yes', ['yes', '1 O 61'])", 30.0)
+        m._wire.timeout = 0.1
+        read = Wire._read
+
+        def read_slowly(wire: Wire, answers: list[Answer]) -> bool:
+            has_answer = read(wire, answers)
+            time.sleep(0.05)
+            return has_answer
+
+        with mock.patch.object(Wire, "_read", read_slowly), mock.patch("marm.wire.LONGEST_ANSWER", 1 << 20):
+            error = self.within(10, m.step)
+        self.assertEqual((error.seconds, error.command), (0.1, "trace all"))
+
+    def test_answers_more_bytes_than_any_answer_has(self) -> None:
+        """In short lines and in long ones. Answers below that are read, whatever they have together."""
+        for text, count in (("1 O 61\\n", 7), ("x" * 999 + "\\n", 1000)):
+            with mock.patch("marm.wire.LONGEST_ANSWER", 200_000):
+                m = self.machine(STARTED + f"hear()\nwhile True: say('{text}' * {70_000 // count})", 60.0)
+                begun = time.monotonic()
+                with self.assertRaises(marm.ProtocolError) as caught:
+                    m.regions()
+                self.assertLess(time.monotonic() - begun, 30)
+                self.assertEqual(str(caught.exception), "an answer has more than 200000 bytes")
+                m = self.machine(STARTED + f"for _ in range(3): hear(); say('{text}' * {140_000 // count}); "
+                                 "say('= 0 00000008 Sleep\\n')\nhear()")
+                answers = m._wire.exchange(["x", "y", "z"])
+                self.assertEqual([len(answer.lines) for answer in answers], [140_000 // count] * 3)
+
+    def test_the_time_is_that_of_one_answer(self) -> None:
+        """Of four that come after half a second each, none takes the second and a half that one may take."""
+        m = self.machine(STARTED + "for _ in range(4): hear(); time.sleep(0.5); say('bg ok\\n= 0 00000008 Sleep\\n')\n"
+                         "hear()", 1.5)
+        begun = time.monotonic()
+        with m.batch() as b:
+            decisions = [b.explain(0, "p", "r") for _ in range(4)]
+        self.assertEqual([decision.value.rule for decision in decisions], ["bg"] * 4)
+        self.assertGreater(time.monotonic() - begun, 1.5)
+
     def test_closes_its_input(self) -> None:
         m = self.machine(STARTED + "os.close(0); time.sleep(60)", 0.5)
         time.sleep(0.2)
@@ -150,12 +191,15 @@ class Programs(unittest.TestCase):
         self.assertTrue(m.explain(0, "p", "r"))
 
     def test_files_are_removed(self) -> None:
+        """As soon as the program has answered: it has read them."""
         m = marm.Machine(b"image", marm.Board(1, 1), slots=2, program=program(
-            "at = sys.argv.index('--board')\ntexts = [open(path).read() for path in sys.argv[at + 1:at + 3]]\n"
-            + STARTED + "hear(); say(f'{sys.argv[at + 2]}:{texts[1]}\\n= 0 00000008 Sleep\\n'); hear()"))
+            "at = sys.argv.index('--board')\npaths = sys.argv[at + 1:at + 3]\n"
+            + "texts = [open(path).read() for path in paths]\n"
+            + STARTED + "hear(); say(f'{paths[0]}:{paths[1]}:{texts[1]}\\n= 0 00000008 Sleep\\n'); hear()"))
         with m:
-            path, _, text = m._wire.exchange(["which"])[0].lines[0].partition(":")
-        self.assertEqual((text, os.path.exists(path)), ("image", False))
+            board, image, text = m._wire.exchange(["which"])[0].lines[0].split(":")
+            self.assertEqual((text, board[-5:], image[-4:]), ("image", ".toml", ".elf"))
+            self.assertEqual([path for path in (board, image) if os.path.exists(path)], [])
 
 
 class Garbage(unittest.TestCase):

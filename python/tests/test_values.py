@@ -6,13 +6,16 @@ import pickle
 import random
 import sys
 import tempfile
+import time
 import unittest
 
 import marm
 from marm import boards, conditions, results
+from marm.images import Symbols
 from marm.wire import Answer, find_program
 
-from .support import FIRMWARE, KERNELS, REPOSITORY
+from .support import ABSOLUTE, FIRMWARE, FUNCTION, GLOBAL, KERNELS, NO_TYPE, OBJECT, REPOSITORY
+from .support import image_with, image_with_table
 
 LINES = (
     "2738 S 20000000 4 u mpu none", "1 F 00000008 2 p ok off", "845 V 0000003C 4 p ok vec", "9 L E000ED04 4 p bus ppb",
@@ -198,6 +201,61 @@ class Images(unittest.TestCase):
         symbols = marm.symbols_of((FIRMWARE / "counter.elf").read_bytes())
         self.assertEqual((symbols["counter"], symbols["main"] & 1), (0x2000_0000, 0))
         self.assertNotIn("$t", symbols)
+
+    def test_addresses_and_sizes(self) -> None:
+        """Bit 0 is the Thumb bit of a function alone. A global symbol wins over a local one, wherever it stands."""
+        symbols = Symbols(image_with(
+            ("function", 0x101, 8, FUNCTION, 1), ("object", 0x2000_0003, 1, OBJECT, 2), ("label", 0x205, 0, NO_TYPE, 1),
+            ("early", 0x2000_0010, 4, OBJECT, 2), ("early", 0x2000_0020, 5, OBJECT | GLOBAL, 2),
+            ("late", 0x2000_0031, 6, OBJECT | GLOBAL, 2), ("late", 0x2000_0040, 7, OBJECT, 2),
+            ("local", 0x2000_0051, 8, OBJECT, 2), ("local", 0x2000_0060, 9, OBJECT, 2),
+            ("global", 0x2000_0071, 8, OBJECT | GLOBAL, 2), ("global", 0x2000_0080, 9, OBJECT | GLOBAL, 2),
+            ("undefined", 5, 4, OBJECT | GLOBAL, 0), ("file", 7, 4, 4, ABSOLUTE), ("$t", 9, 0, NO_TYPE, 1),
+        ))
+        self.assertEqual(symbols.addresses, {
+            "function": 0x100, "object": 0x2000_0003, "label": 0x205, "early": 0x2000_0020, "late": 0x2000_0031,
+            "local": 0x2000_0051, "global": 0x2000_0071,
+        })
+        self.assertEqual([*symbols.sizes.values()], [8, 1, 0, 5, 6, 8, 8])
+        self.assertEqual([*symbols.sizes], [*symbols.addresses])
+
+    def test_the_symbol_of_an_address(self) -> None:
+        """That which begins last of those that cover it; a function without a size reaches to the next symbol."""
+        symbols = Symbols(image_with(
+            ("outer", 0x101, 0x40, FUNCTION, 1), ("inner", 0x111, 0x10, FUNCTION | GLOBAL, 1),
+            ("twin", 0x110, 0x10, OBJECT, 1), ("open", 0x181, 0, FUNCTION, 1), ("label", 0x184, 0, NO_TYPE, 1),
+            ("next", 0x191, 4, FUNCTION, 1), ("last", 0x1A1, 0, FUNCTION, 1), ("number", 0x300, 8, OBJECT, ABSOLUTE),
+        ))
+        for address, name in (
+            (0xFF, None), (0x100, "outer + 0x0"), (0x10F, "outer + 0xF"), (0x110, "inner + 0x0"),
+            (0x11E, "inner + 0xE"), (0x120, "outer + 0x20"), (0x13F, "outer + 0x3F"), (0x140, None),
+            (0x180, "open + 0x0"), (0x18E, "open + 0xE"), (0x190, "next + 0x0"), (0x194, None),
+            (0x1A0, "last + 0x0"), (0x1A2, None), (0x304, None),
+        ):
+            self.assertEqual(symbols.name_at(address), name, f"{address:08X}")
+        self.assertIsNone(Symbols(b"").name_at(0))
+
+    def test_names_that_many_symbols_share(self) -> None:
+        """A name is read once, and names that are ends of one another have a bound: an image of 1 MiB takes no time."""
+        long, count = b"\0" + b"n" * (1 << 19) + b"\0", 1 << 15
+        begun = time.process_time()
+        shared = Symbols(image_with_table(long, [(1, 8 * k, 4, OBJECT, 1) for k in range(count)]))
+        self.assertLess(time.process_time() - begun, 5)
+        self.assertEqual([*map(len, shared.addresses)], [1 << 19])
+        self.assertEqual(shared.name_at(8 * count - 8), "n" * (1 << 19) + " + 0x0")
+        image = image_with_table(long[-(1 << 15):], [(k, 8 * k, 4, OBJECT, 1) for k in range(1 << 11)])
+        self.assertLessEqual(sum(map(len, marm.symbols_of(image))), 4 * len(image))
+        ends = image_with_table(b"\0counter\0", [(1 + k, k, 4, OBJECT, 1) for k in range(8)])
+        self.assertEqual([*marm.symbols_of(ends)], ["counter", "ounter", "unter", "nter", "ter", "er", "r"])
+
+    def test_a_table_that_many_headers_describe(self) -> None:
+        """One symbol table is read, as by the program."""
+        image = bytearray(image_with_table(b"\0name\0", [(1, 8 * k, 4, OBJECT, 1) for k in range(1 << 9)]))
+        image[46:50] = (0).to_bytes(2, "little") + (0xFFFF).to_bytes(2, "little")  # headers of no size, all the same
+        image[52:92] = image[92:132]
+        begun = time.process_time()
+        marm.symbols_of(bytes(image))
+        self.assertLess(time.process_time() - begun, 5)
 
     def test_damaged(self) -> None:
         image = (FIRMWARE / "counter.elf").read_bytes()
