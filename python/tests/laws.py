@@ -11,8 +11,10 @@ from marm import Condition
 
 
 def snapshot(m: marm.Machine) -> tuple[Any, ...]:
-    """Returns all that can be seen of a machine."""
-    return dict(m.regs), m.read(m.ram.start, len(m.ram)), m.tick, m.next, m.stop, m.console
+    """Returns all that can be seen of a machine: of its RAM the words that aren't 0, so that a message shows few."""
+    data = m.read(m.ram.start, len(m.ram))
+    words = {f"{m.ram.start + at:08X}": data[at:at + 4].hex() for at in range(0, len(data), 4) if any(data[at:at + 4])}
+    return dict(m.regs), words, m.tick, m.next, m.stop, m.console
 
 
 def covers(condition: Condition, access: marm.Access) -> bool:
@@ -343,3 +345,98 @@ class Laws(unittest.TestCase):
         never = next(a for a in m.ram if not any(e.address <= a < e.address + e.size for e in written))
         self.assertIsNone(m.last(marm.Writes(never, 1)))
         self.assertEqual(snapshot(m), end)
+
+    def test_last_at_a_breakpoint(self) -> None:
+        """The machine is at the breakpoint, where the run that reached it last ended."""
+        m = self.m
+        places = []
+        for _ in range(200):
+            m.step()
+            places.append((m.pc, m.next))
+        end = snapshot(m)
+        for place in self.random.sample([place for place in places if place[1] == "Instruction"], 6):
+            newest = max(tick for tick, there in enumerate(places, 1) if there == place)
+            ran = m.last(marm.At(place[0]))
+            assert ran is not None
+            self.assertEqual((ran.why, ran.tick, m.tick, m.pc), ("break", newest, newest, place[0]))
+            m.run(200 - newest)
+            self.assertEqual(snapshot(m), end)
+
+    def test_a_state_that_is_later_than_now(self) -> None:
+        """It isn't on the way to now, whether or not something was put since: the machine stays."""
+        m = self.m
+        m.run(50)
+        later = m.save()
+        m.restore(m.start)
+        for put in (False, True):
+            m.run(20)
+            if put:
+                m.regs.r12 = 77
+                m.run(60)
+            here = snapshot(m)
+            calls: list[Callable[[], object]] = [
+                lambda: m.replay(m.tick, later), lambda: m.replay(50, later), lambda: m.last(marm.REFUSED, later),
+            ]
+            for call in calls:
+                with self.assertRaises(ValueError):
+                    call()
+                self.assertEqual(snapshot(m), here)
+
+    def test_signals_are_put_again(self) -> None:
+        """`replay` and `last` make a run with its pulses, rises, falls and NMI: the same lines and registers."""
+        m = self.m
+        if m.lines < 2:
+            self.skipTest("the board has no two lines")
+        signals: list[Callable[[], None]] = [
+            lambda: m.pulse(0), lambda: m.rise(1), lambda: m.fall(1), lambda: m.pulse(1), m.nmi,
+        ]
+        m.run(self.steps // 2)
+        events = []
+        for signal in signals:
+            signal()
+            here = m.tick
+            ran = m.run(25, trace="all")
+            events += ran.events
+        end = snapshot(m)
+        m.replay(m.tick)
+        self.assertEqual(snapshot(m), end)
+        m.replay(here)
+        self.assertEqual((m.run(25, trace="all").lines, snapshot(m)), (ran.lines, end))
+        entry = [event for event in events if isinstance(event, marm.Entry)][-1]
+        found = m.last(marm.ENTRY)
+        assert found is not None
+        self.assertEqual((found.cause, m.tick), (entry, entry.tick - 1))
+        m.run(end[2] - m.tick)
+        self.assertEqual(snapshot(m), end)
+        m.restore(m.start)
+        m.run(end[2])
+        self.assertNotEqual(snapshot(m), end)
+
+    def test_signals_of_a_batch_are_put_again(self) -> None:
+        m = self.m
+        if m.lines < 2:
+            self.skipTest("the board has no two lines")
+        with m.batch() as b:
+            b.run(self.steps // 2), b.pulse(0), b.run(25), b.rise(1), b.run(25), b.fall(1), b.nmi(), b.run(25)
+        end = snapshot(m)
+        m.replay(m.tick)
+        self.assertEqual(snapshot(m), end)
+
+    def test_runs_of_a_batch(self) -> None:
+        """Each counts its own steps."""
+        with self.m.batch() as b:
+            runs = [b.run(5), b.run(5), b.run(7)]
+        self.assertEqual([(ran.value.steps, ran.value.tick) for ran in runs], [(5, 5), (5, 10), (7, 17)])
+
+    def test_the_ends_of_memory(self) -> None:
+        """The first and the last word of each memory, and its last byte."""
+        m = self.m
+        for memory in (m.flash, m.ram):
+            for address, data in (
+                (memory.start, b"1st."), (memory.stop - 4, b"last"), (memory.stop - 1, b"!"),
+                (memory.stop - 6, b"sixth."),
+            ):
+                m.write(address, data)
+                self.assertEqual(m.read(address, len(data)), data)
+            with self.assertRaises(marm.NotMemory):
+                m.write(memory.stop - 4, b"five.")

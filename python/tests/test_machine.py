@@ -124,6 +124,18 @@ class RoundRobin(laws.Laws):
             self.assertNotIn(m.regs.r0, (42, 43))
             m.restore(here)
 
+    def test_half_of_an_entry_at_a_breakpoint(self) -> None:
+        """A run ends there by its steps, and goes on: a breakpoint is that of an instruction."""
+        m = self.m
+        m.run(STORE - 1)
+        at = marm.At(m.pc)
+        for following in ("Stack", "Vector"):
+            ran = m.run(1, at)
+            self.assertEqual((marm.At(m.pc), m.next, ran.why, ran.condition), (at, following, "steps", None))
+        m.restore(m.start)
+        m.run(STORE - 2)
+        self.assertEqual((m.run(1, at).why, m.next), ("break", "Instruction"))
+
     def test_a_vector_is_read(self) -> None:
         self.assertEqual(str(self.m.run_to(marm.Reads(0x3C)).cause), "845 V 0000003C 4 p ok vec")
 

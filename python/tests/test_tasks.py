@@ -3,6 +3,7 @@ alone, with the names of its tasks. The lines about overlap were worked out by h
 
 from __future__ import annotations
 
+import sys
 import unittest
 
 import marm
@@ -87,10 +88,31 @@ class Lines(unittest.TestCase):
         tasks = tasks_of(["stop breakpoint 0", ""])
         self.assertEqual((tasks.worlds, tasks.apart), ([], True))
 
+    def test_steps_in_worlds_without_a_number(self) -> None:
+        """Then the tasks aren't apart, though no two of them share a byte."""
+        tasks = tasks_of(ROUND_ROBIN.replace("apart 1 2\n", "others 3\napart 1 2\n").split("\n"))
+        self.assertEqual((tasks.shared, tasks.others, tasks.are_apart(1, 2)), ([], 3, True))
+        self.assertFalse(tasks.apart)
+
+    def test_statuses(self) -> None:
+        """Status 4 is a run that ended at another stop: its lines are read. Others are refusals."""
+        for status in (0, 4):
+            self.assertEqual(answered(OVERLAP, status), tasks_of(OVERLAP.split("\n")))
+        for status in (1, 2, 3, 5):
+            with self.assertRaises(marm.StartError) as caught:
+                answered("", status)
+            self.assertEqual((caught.exception.status, str(caught.exception)), (status, "marm: no"))
+
     def test_texts_that_are_none(self) -> None:
         for text in NONE:
             with self.assertRaises((ValueError, IndexError), msg=text):
                 tasks_of(text.split("\n"))
+
+
+def answered(text: str, status: int) -> marm.Tasks:
+    """Returns what a program that writes this text and ends so has answered."""
+    program = f"import sys; sys.stdout.write({text!r}); sys.stderr.write('marm: no\\n'); sys.exit({status})"
+    return marm.tasks(b"", "none.toml", program=[sys.executable, "-c", program])
 
 
 @needs_program
@@ -108,3 +130,9 @@ class Program(unittest.TestCase):
         with self.assertRaises(marm.StartError) as caught:
             marm.tasks(b"no image", KERNELS / "mailbox.toml")
         self.assertEqual(caught.exception.status, 3)
+
+    def test_a_run_that_ends_in_lockup(self) -> None:
+        """UDF, whose fault escalates to HardFault, and UDF as the handler of that."""
+        vectors = bytes.fromhex("00040020" + 3 * "11000000")
+        tasks = marm.tasks(marm.build_image({0: vectors + bytes.fromhex("00de")}), marm.Board(1024, 1024))
+        self.assertEqual((str(tasks.stop), tasks.worlds, tasks.apart), ("lockup", [], True))

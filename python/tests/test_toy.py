@@ -20,6 +20,11 @@ from . import laws
 from .support import toy
 
 
+# (a job in a script's background, and one of nohup, ignores it, and so do its children)
+is_sigint_taken = signal.getsignal(signal.SIGINT) is signal.default_int_handler
+needs_sigint = unittest.skipUnless(is_sigint_taken, "SIGINT is ignored here")
+
+
 class Toys(laws.Laws):
     def make(self) -> marm.Machine:
         return toy()
@@ -161,6 +166,31 @@ class Toys(laws.Laws):
             with self.assertRaises(ValueError):
                 m.restore(saved)
 
+    def test_half_of_an_entry_at_a_breakpoint(self) -> None:
+        """A run ends there by its steps, and goes on: a breakpoint is that of an instruction."""
+        m = self.m
+        m.pulse(0)
+        m.pulse(0)
+        at = marm.At(0x102)
+        ran = m.run(1, at)
+        self.assertEqual((m.pc, m.next, ran.why, ran.condition), (0x102, "Stack", "steps", None))
+        m.restore(m.start)
+        m.pulse(0)
+        m.pulse(0)
+        self.assertEqual([m.run(10, at).why, m.tick], ["steps", 10])
+        m.restore(m.start)
+        self.assertEqual((m.run(1, at).why, m.next), ("break", "Instruction"))
+
+    def test_a_run_of_several_parts(self) -> None:
+        """It makes the steps that were asked for, and no more."""
+        m = self.m
+        with mock.patch("marm.machine.STEPS_OF_A_PART", 40), mock.patch("marm.machine.STEPS_OF_A_TRACED_PART", 30):
+            for steps in (39, 40, 41, 100):
+                for trace in ("console", "all"):
+                    m.restore(m.start)
+                    ran = m.run(steps, trace=trace)
+                    self.assertEqual((ran.steps, ran.tick, m.tick), (steps, steps, steps), trace)
+
     def test_expect(self) -> None:
         m = self.m
         m.expect(b"cde")
@@ -259,6 +289,7 @@ class Toys(laws.Laws):
         self.assertLessEqual(set(errors), {"another thread is using the machine: make one for each thread"})
         self.assertFalse(m.is_lost)
 
+    @needs_sigint
     def test_control_c(self) -> None:
         """It comes out of a long run between two answers, and the machine goes on."""
         m = self.m
@@ -272,6 +303,7 @@ class Toys(laws.Laws):
             self.assertEqual(m.run(trace="all").stop, marm.Stop("breakpoint", "0"))
             self.assertEqual((m.tick, len(m.console)), (1000, 90))
 
+    @needs_sigint
     def test_uninterrupted(self) -> None:
         """KeyboardInterrupt comes at the end of the block; the second ^C breaks it off; other handlers stay."""
         reached = []

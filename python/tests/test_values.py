@@ -65,6 +65,15 @@ class Answers(unittest.TestCase):
         self.assertEqual((whole.base, whole.size, whole.disabled_subregions), (0, 2**32, 0))
         self.assertEqual(marm.Region(0, 0, 0x420F).disabled_subregions, 0x42)
 
+    def test_the_base_of_a_region(self) -> None:
+        """Where ADDR isn't a multiple of the size, its low bits are no part of the base."""
+        for rbar, rasr, base in (
+            (0x2000_0410, 0x0300_0011, 0x2000_0400), (0x2000_0460, 0x0300_0011, 0x2000_0400),
+            (0x2000_07E0, 0x0300_0011, 0x2000_0600), (0x2000_0460, 0x0300_0009, 0x2000_0460),
+            (0x2FFF_FFE0, 0x0300_0039, 0x2000_0000),
+        ):
+            self.assertEqual(marm.Region(0, rbar, rasr).base, base, f"{rbar:08X} {rasr:08X}")
+
     def test_ends(self) -> None:
         self.assertEqual(results.status_of("2737 0000031C Instruction"), (2737, 0x31C, "Instruction", None))
         self.assertEqual(results.status_of("9 00000004 stop lockup"), (9, 4, "", marm.Stop("lockup", "")))
@@ -114,6 +123,20 @@ class Conditions(unittest.TestCase):
         four = [marm.Reads(4), marm.Writes(4), marm.Accesses(4), marm.Reads("four")]
         found = conditions.conditions_of(four, lambda address: 4)
         self.assertEqual(len(found), 3)
+
+    def test_accesses_beside_the_watched_bytes(self) -> None:
+        """They meet no watchpoint; those that share a byte with it do."""
+        for address, size, met in (
+            (0x104, 4, False), (0x104, 1, False), (0xFF, 1, False), (0xFC, 4, False), (0xFE, 2, False),
+            (0x103, 1, True), (0x100, 1, True), (0xFF, 2, True), (0xFD, 4, True), (0x102, 4, True), (0x100, 4, True),
+        ):
+            store = marm.Access(9, "S", address, size, False, "ok", "r1")
+            for condition in (marm.Writes(0x100), marm.Accesses(0x100, 4)):
+                self.assertEqual(condition.is_met(store), met, str(store))
+            self.assertFalse(marm.Reads(0x100).is_met(store))
+            self.assertFalse(marm.Writes(0x100).is_met(store._replace(outcome="mpu")))
+        byte = marm.Access(9, "L", 0x101, 1, False, "ok", "r1")
+        self.assertEqual([marm.Reads(at, 1).is_met(byte) for at in (0x100, 0x101, 0x102)], [False, True, False])
 
     def test_pickled(self) -> None:
         event = marm.parse_event("5 X 15")
