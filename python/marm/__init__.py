@@ -15,7 +15,7 @@ from .boards import Board, BoardEvent, Device, Ram
 from .conditions import ENTRY, FAULT, REFUSED, Accesses, At, Condition, Reads, Until, Watch, Writes
 from .errors import (
     CommandError, Dead, Hung, MarmError, NoProgram, NoSlot, NotMemory, NotReached, PlaceRefused, ProtocolError,
-    StartError,
+    StartError, SweepError,
 )
 from .events import Access, Console, Entry, Event, Fault, Return, Stop, parse_event
 from .images import build_image, symbols_of
@@ -29,8 +29,8 @@ from .worlds import Interval, Shared, Tasks, World, tasks
 __all__ = [
     "ENTRY", "FAULT", "REFUSED", "Access", "Accesses", "At", "Batch", "Board", "BoardEvent", "CommandError",
     "Condition", "Console", "Dead", "Decision", "Device", "Entry", "Event", "Fault", "Hung", "Interval", "Later",
-    "Machine", "MarmError", "NoProgram", "NoSlot", "NotMemory", "NotReached", "PlaceRefused", "ProtocolError", "Ram",
-    "Ran", "Reads", "Region", "Registers", "Result", "Return", "Saved", "Shared", "Span", "StartError", "State", "Stop",
-    "Tasks", "Until", "Watch", "World", "Writes", "build_image", "parse_event", "sweep", "symbols_of", "tasks",
-    "windows",
+    "Machine", "MarmError", "NoProgram", "NoSlot", "NotMemory", "NotReached", "PlaceRefused",
+    "ProtocolError", "Ram", "Ran", "Reads", "Region", "Registers", "Result", "Return", "Saved", "Shared", "Span",
+    "StartError", "State", "Stop", "SweepError", "Tasks", "Until", "Watch", "World", "Writes", "build_image",
+    "parse_event", "sweep", "symbols_of", "tasks", "windows",
 ]

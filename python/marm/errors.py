@@ -2,7 +2,7 @@
 
 from __future__ import annotations
 
-from typing import Any, Optional
+from typing import Any, Optional, Sequence
 
 from .events import Stop
 
@@ -96,6 +96,21 @@ class NotMemory(MarmError, IndexError):
 
 class NotReached(MarmError, AssertionError):
     """A run ended without what it was to reach. The machine is where the run ended."""
+
+
+class SweepError(MarmError):
+    """An exception ended a sweep: the cause, `__cause__`.
+
+    `variant` is the one that it came up with, and `results` are those that were there, in the order of the variants."""
+
+    def __init__(self, variant: Any, message: str, results: Sequence[tuple[Any, Any]] = ()) -> None:
+        super().__init__(variant, message, results)
+        self.variant = variant
+        self.message = message
+        self.results = results
+
+    def __str__(self) -> str:
+        return f"variant {self.variant!r}: {self.message}"
 
 
 class NoSlot(MarmError, IndexError):

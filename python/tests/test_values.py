@@ -303,7 +303,7 @@ class Errors(unittest.TestCase):
             marm.StartError(3, "marm: load 1 Truncated\n"), marm.Dead(-9, ""), marm.Hung(0.5, "run 5"),
             marm.CommandError("run 0", 2), marm.PlaceRefused("place word 1 1", 1, "NotAligned"), marm.NotReached("y"),
             marm.PlaceRefused("place word 4 2", 4, "Refused", marm.Stop("unpredictable", "mpu-ctrl")),
-            marm.NotMemory("z"), marm.NoProgram("x"),
+            marm.NotMemory("z"), marm.NoProgram("x"), marm.SweepError(7, "RuntimeError: no", [(1, 2)]),
         ):
             again = pickle.loads(pickle.dumps(error))
             self.assertEqual((type(again), str(again), vars(again)), (type(error), str(error), vars(error)))
