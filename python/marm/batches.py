@@ -97,7 +97,7 @@ class Batch:
         return self._add(requests.REGISTERS)
 
     def read(self, address: Address, size: int) -> Later[bytes]:
-        """Reads bytes of flash and RAM."""
+        """Reads bytes of flash, RAM and devices."""
         return self._add(requests.reading(self._address_of(address), size))
 
     def read_word(self, address: Address) -> Later[int]:

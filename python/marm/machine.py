@@ -178,8 +178,8 @@ class Machine:
     # ---- memory ------------------------------------------------------------------------------------------------------
 
     def read(self, address: Address, size: int) -> bytes:
-        """Returns `size` bytes of flash and RAM. It is no access of the machine. NotMemory where a byte is
-        elsewhere."""
+        """Returns `size` bytes of flash, RAM and devices: a device's word as it reads now. It is no access of the
+        machine, so no load has an effect. NotMemory where a byte is elsewhere."""
         return self._session.do(requests.reading(self.address(address), size))
 
     def read_word(self, address: Address) -> int:
@@ -187,8 +187,9 @@ class Machine:
         return self._session.do(requests.reading_word(self.address(address)))
 
     def write(self, address: Address, data: bytes) -> None:
-        """Places bytes into flash or RAM, also where the firmware couldn't write. NotMemory where a byte is elsewhere,
-        PlaceRefused where the machine has stopped; then nothing changes."""
+        """Places bytes into flash, RAM or devices, as whole words, also where the firmware couldn't write: a device's
+        word gets what a poke of the board's script gives it. NotMemory where a byte is elsewhere, PlaceRefused where
+        the machine has stopped, and of a device in a handler or an exception entry; then nothing changes."""
         first = self.address(address)
         if not data:
             return
@@ -201,8 +202,8 @@ class Machine:
         batch.send()
 
     def write_word(self, address: Address, value: int) -> None:
-        """Places a word into flash, RAM, or a register of the Private Peripheral Bus. PlaceRefused where that is
-        refused, and then nothing changes; ValueError where the value isn't from 0 to 2 ** 32 - 1."""
+        """Places a word into flash, RAM, a device, or a register of the Private Peripheral Bus. PlaceRefused where that
+        is refused, and then nothing changes; ValueError where the value isn't from 0 to 2 ** 32 - 1."""
         self._session.do(requests.placing_word(self._session, self.address(address), value))
 
     # ---- events from outside -----------------------------------------------------------------------------------------

@@ -34,7 +34,7 @@ def _ok(answer: Answer) -> None:
 
 
 def reading(address: int, size: int) -> Request[bytes]:
-    """Reads `size` bytes of flash and RAM."""
+    """Reads `size` bytes of flash, RAM and devices' words."""
     if size < 0:
         raise ValueError(f"{size} bytes")
     end = address + size
@@ -43,7 +43,7 @@ def reading(address: int, size: int) -> Request[bytes]:
     def read(answers: Sequence[Answer]) -> bytes:
         text = "".join([answer.lines[0].partition(":")[2] for answer in answers])
         if "-" in text:
-            raise NotMemory(f"not all bytes from {address:08X} to {end - 1:08X} are memory")
+            raise NotMemory(f"not all bytes from {address:08X} to {end - 1:08X} are memory or words of devices")
         data = bytes.fromhex(text)
         if len(data) != size:
             raise ValueError(f"{len(data)} bytes for {size}")
@@ -81,7 +81,8 @@ def placing_register(session: Session, name: str, value: int) -> Request[None]:
 
 
 def placing_word(session: Session, address: int, value: int) -> Request[None]:
-    """Places a word into flash, RAM, or the Private Peripheral Bus. ValueError where the value is no word."""
+    """Places a word into flash, RAM, a device, or the Private Peripheral Bus. ValueError where the value is no
+    word."""
     return putting(session, f"place word {address} {_word(value)}")
 
 
