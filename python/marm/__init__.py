@@ -20,6 +20,7 @@ from .errors import (
 from .events import Access, Console, Entry, Event, Fault, Return, Stop, parse_event
 from .images import build_image, symbols_of
 from .machine import Machine
+from .program import ProgramInfo, program_info
 from .registers import Registers
 from .results import Decision, Ran, Region, Span, State
 from .session import Saved
@@ -29,8 +30,8 @@ from .worlds import Interval, Shared, Tasks, World, tasks
 __all__ = [
     "ENTRY", "FAULT", "REFUSED", "Access", "Accesses", "At", "Batch", "Board", "BoardEvent", "CommandError",
     "Condition", "Console", "Dead", "Decision", "Device", "Entry", "Event", "Fault", "Hung", "Interval", "Later",
-    "Machine", "MarmError", "NoProgram", "NoSlot", "NotMemory", "NotReached", "PlaceRefused",
+    "Machine", "MarmError", "NoProgram", "NoSlot", "NotMemory", "NotReached", "PlaceRefused", "ProgramInfo",
     "ProtocolError", "Ram", "Ran", "Reads", "Region", "Registers", "Result", "Return", "Saved", "Shared", "Span",
     "StartError", "State", "Stop", "SweepError", "Tasks", "Until", "Watch", "World", "Writes", "build_image",
-    "parse_event", "sweep", "symbols_of", "tasks", "windows",
+    "parse_event", "program_info", "sweep", "symbols_of", "tasks", "windows",
 ]

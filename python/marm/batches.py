@@ -11,6 +11,8 @@ from .errors import MarmError
 from .results import Decision, Ran, Region, State
 from .session import Request, Saved, Session
 
+__tracebackhide__ = True  # pytest shows no frame of the package
+
 T = TypeVar("T")
 
 

@@ -7,6 +7,8 @@ import sys
 from dataclasses import dataclass, fields, replace
 from typing import Any, NamedTuple, Optional, Union
 
+__tracebackhide__ = True  # pytest shows no frame of the package
+
 Path = Union[str, "os.PathLike[str]"]
 KEYS = ("flash_base", "flash_size", "ram_size", "priority_bits", "lines", "regions")
 

@@ -7,6 +7,8 @@ from typing import Callable, ClassVar, Sequence, Union
 
 from .events import Access, Entry, Event, Fault
 
+__tracebackhide__ = True  # pytest shows no frame of the package
+
 MOST = 16  # breakpoints, and watchpoints, that the program holds
 
 Address = Union[int, str]

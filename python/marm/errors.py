@@ -6,6 +6,8 @@ from typing import Any, Optional, Sequence
 
 from .events import Stop
 
+__tracebackhide__ = True  # pytest shows no frame of the package
+
 
 class MarmError(Exception):
     """The base of all errors of this package."""
@@ -91,7 +93,7 @@ class PlaceRefused(MarmError, ValueError):
 
 
 class NotMemory(MarmError, IndexError):
-    """A byte is in no memory: neither in flash nor in a RAM."""
+    """A byte is neither in flash nor in a RAM nor in a device's word."""
 
 
 class NotReached(MarmError, AssertionError):

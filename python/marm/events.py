@@ -4,6 +4,8 @@ from __future__ import annotations
 
 from typing import NamedTuple, Optional, Union
 
+__tracebackhide__ = True  # pytest shows no frame of the package
+
 # The second field of each event is its letter, so events of two kinds are never equal.
 
 

@@ -9,6 +9,8 @@ from .requests import putting, restore
 from .results import Ran
 from .session import Saved, Session
 
+__tracebackhide__ = True  # pytest shows no frame of the package
+
 # Runs so many steps, up to these conditions.
 Run = Callable[[int, Until], Ran]
 

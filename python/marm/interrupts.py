@@ -7,6 +7,8 @@ import threading
 from types import FrameType, TracebackType
 from typing import Any, Optional, Type
 
+__tracebackhide__ = True  # pytest shows no frame of the package
+
 
 class Uninterrupted:
     """A block that ^C doesn't break off: KeyboardInterrupt is raised at its end. The second ^C breaks it off.

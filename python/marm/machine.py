@@ -21,6 +21,8 @@ from .session import Request, Saved, Session
 from .walks import Walk
 from .wire import VERSION, Answer, Program, Wire, find_program
 
+__tracebackhide__ = True  # pytest shows no frame of the package
+
 Image = Union[bytes, Path]
 
 STEPS_OF_A_PART = 100_000  # of a long run, so that each answer comes soon

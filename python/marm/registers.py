@@ -7,6 +7,8 @@ from typing import Iterator, MutableMapping
 from .requests import NUMBERS, REGISTERS, SPECIALS, placing_register
 from .session import Session
 
+__tracebackhide__ = True  # pytest shows no frame of the package
+
 NAMES = (*NUMBERS, *SPECIALS)
 
 

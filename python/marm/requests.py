@@ -14,6 +14,8 @@ from .results import (
 from .session import Request, Saved, Session, Settings
 from .wire import Answer
 
+__tracebackhide__ = True  # pytest shows no frame of the package
+
 BYTES_OF_A_COMMAND = 256
 MAX_STEPS = 1_000_000  # of one command
 SHORT_RUN = 1_000  # steps

@@ -7,6 +7,8 @@ from typing import NamedTuple, Optional, Sequence
 from .conditions import Condition
 from .events import Access, Event, Stop, parse_event, region_of
 
+__tracebackhide__ = True  # pytest shows no frame of the package
+
 
 class Decision(NamedTuple):
     """The rule that would decide an access now, and whether it grants it (the bus may still refuse).

@@ -9,6 +9,8 @@ from .interrupts import Uninterrupted
 from .results import Status, status_of
 from .wire import Answer, Wire
 
+__tracebackhide__ = True  # pytest shows no frame of the package
+
 T = TypeVar("T")
 
 

@@ -15,6 +15,8 @@ from .errors import SweepError
 from .machine import Image, Machine
 from .wire import Program
 
+__tracebackhide__ = True  # pytest shows no frame of the package
+
 V = TypeVar("V")
 R = TypeVar("R")
 

@@ -9,6 +9,8 @@ from .events import Console, Event
 from .requests import running
 from .session import Session, Settings
 
+__tracebackhide__ = True  # pytest shows no frame of the package
+
 FIRST_PART = 256  # steps; each part is twice the one before it
 LONGEST_PART = 16_384
 

@@ -10,6 +10,8 @@ from .errors import ProtocolError, StartError
 from .events import Stop, region_of
 from .wire import Program, find_program, run_to_end
 
+__tracebackhide__ = True  # pytest shows no frame of the package
+
 WROTE_ALL = (0, 4)  # the statuses of a run; 4 is another stop than a breakpoint or the limit of steps
 
 
@@ -53,7 +55,7 @@ class World(NamedTuple):
 
 
 class Shared(NamedTuple):
-    """The bytes of RAM from `first` to `last`: world `writer` may write them, world `reader` may read or execute them."""
+    """The bytes of RAM from `first` to `last`: world `writer` may write them, and world `reader` read or execute."""
 
     writer: int
     reader: int

@@ -210,6 +210,9 @@ class Session:
 
 
 def main() -> None:
+    if sys.argv[1:] == ["--version"]:
+        print("marm toy")
+        return
     session = Session(int(sys.argv[sys.argv.index("--slots") + 1]))
     while True:
         line = sys.stdin.readline()
