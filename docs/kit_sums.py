@@ -1,10 +1,11 @@
 #!/usr/bin/env python3
-"""Prints which kit of Rattle is on PATH, and the sha256 sums of what a verdict about this repository rests on.
+"""Compares the kit of Rattle on PATH with the sha256 sums that are known of it: of what a verdict about this repository
+rests on.
 
-    python3 docs/kit_sums.py          prints a line for each: its sum, and what it is; in a minute or less
-    python3 docs/kit_sums.py FILE     prints only the lines that FILE has otherwise, and exits 1 where there are any
+    python3 docs/kit_sums.py            prints the lines that differ from those known, and exits 1 where there are any
+    python3 docs/kit_sums.py --print    prints a line for each: its sum, and what it is
 
-docs/kit_sums.txt has the lines of a kit with which CI passed (docs/AUDIT.md).
+docs/kits has a file for each kit with which CI passed (docs/AUDIT.md), by the name that `rt version` prints.
 
 The sum of a folder is that of the list of its files' sums, which these commands make from its top:
 
@@ -86,16 +87,29 @@ def lines_of(top):
         yield f"{sum_of_folder(f'{top}/rlibs/{name}.rlib')}  rlibs/{name}.rlib: a library, its contracts and its code"
 
 
+def known(top):
+    """Returns the path of the file that has the lines of a kit of this name, from the top of the repository."""
+    with open(f"{top}/KIT-ID", encoding="utf-8") as file:
+        path = f"docs/kits/{file.read().split()[0]}.txt"
+    if not os.path.isfile(os.path.join(TOP, path)):
+        sys.exit(f"kit_sums.py: no sums are known of this kit: there is no {path}")
+    return path
+
+
 def main():
-    if len(sys.argv) == 1:
-        for line in lines_of(kit()):
+    top = kit()
+    if sys.argv[1:] == ["--print"]:
+        for line in lines_of(top):
             print(line, flush=True)
         return
-    with open(sys.argv[1], encoding="utf-8") as file:
+    if len(sys.argv) > 1:
+        sys.exit("usage: kit_sums.py [--print]")
+    path = known(top)
+    with open(os.path.join(TOP, path), encoding="utf-8") as file:
         wanted = file.read().splitlines()
-    lines = list(lines_of(kit()))
+    lines = list(lines_of(top))
     differing = [f"kit: {line}" for line in lines if line not in wanted]
-    differing += [f"{sys.argv[1]}: {line}" for line in wanted if line not in lines]
+    differing += [f"{path}: {line}" for line in wanted if line not in lines]
     for line in differing:
         print(line)
     sys.exit(1 if differing else 0)
