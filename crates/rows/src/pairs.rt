@@ -150,7 +150,8 @@ impl<D: Decider, C: KeptCode, L: Exceptions, U: SysTickState> Pair<D, C, L, U> {
     fn agrees(&self) -> bool {
         let (one, two) = (&self.one.machine, &self.two.machine);
         match self.words {
-            Some([address, first, second]) => {
+            Some(words) => {
+                let [address, first, second] = words;
                 agree(one, two, Some(address))
                     && shown(one, address) == Some(first)
                     && shown(two, address) == Some(second)
