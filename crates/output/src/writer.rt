@@ -172,6 +172,13 @@ impl<T: Drop, K: Ledger> Over<T, K> {
         Over { inner, book, share }
     }
 
+    /// Lends the standard library's writer or reader.
+    pub fn inner(&self) -> &T
+        ensures { result.now ≡ self.now.inner }
+    {
+        &self.inner
+    }
+
     /// Returns the standard library's writer or reader.
     pub fn into_inner(self) -> T
         ensures { result ≡ self.inner }
