@@ -107,7 +107,7 @@ def lines_of_item(path, name):
 
 # the parts of the table of docs/AUDIT.md, "What to read, in order", each with its files of definitions
 AUDIT_PARTS = {
-    "claim": "machine/MachineModel machine/Runs output/Output Run",
+    "claim": "target/MachineModel machine/Runs output/Output Run",
     "step": "State Step Operations ProgramCounter",
     "access": "Map Memory Regions Rules Outcomes Space Accesses",
     "words": "Words Arithmetic Sizes Kinds Registers Monitor",

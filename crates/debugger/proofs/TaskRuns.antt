@@ -7,9 +7,9 @@ use Rattle.debugger.specs.Answers.{step_piece, task_on, task_piece, task_text}
 use Rattle.debugger.specs.Laws.{TaskLaw}
 use Rattle.debugger_commands.specs.Conditions.{written}
 use Rattle.debugger_commands.specs.Settings.{Settings, without_conditions}
-use Rattle.machine.proofs.Running.{after_more, events_more, none_made}
+use Rattle.target.proofs.Running.{after_more, events_more, none_made}
 use Rattle.machine.specs.NextStep.{is_instruction_next}
-use Rattle.machine.specs.Tasks.{end_of}
+use Rattle.target.specs.Endings.{end_of}
 use Rattle.platform.specs.declared.stop.Stop.{Stop}
 use Rattle.reference.specs.Run.{after, events_of}
 use Rattle.reference.specs.State.{State}

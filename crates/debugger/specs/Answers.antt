@@ -19,8 +19,8 @@ use Rattle.debugger_commands.specs.Conditions.{first_hit, run_end_text, written}
 use Rattle.debugger_commands.specs.Settings.{Settings, ok_text, settings_after, settings_text, without_conditions}
 use Rattle.debugger_commands.specs.Texts.{decision_text, help_text, memory_text, region_lines}
 use Rattle.machine.specs.NextStep.{is_instruction_next, next_kind_of}
-use Rattle.machine.specs.Tasks.{end_of}
-use Rattle.machine.specs.Values.{values_of}
+use Rattle.target.specs.Endings.{end_of}
+use Rattle.target.specs.Values.{values_of}
 use Rattle.platform.specs.declared.error.PlaceError.{PlaceError}
 use Rattle.platform.specs.declared.error.PlaceError.TheVariants.{NotAligned, NoSuchPlace, Stopped, Refused}
 use Rattle.platform.specs.declared.exception.TheConstants.{MAX_INTERRUPTS}

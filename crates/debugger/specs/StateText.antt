@@ -1,8 +1,8 @@
 -- The state of a machine as text (profile).
 use Rattle.std.specs.Prelude.{ℕ, zero, suc, Bool, if◌then◌else◌, List, [], ◌++◌, codes, decimal}
 use Rattle.debugger_commands.specs.Texts.{general_lines, region_lines, register_line}
-use Rattle.machine.specs.declared.readers.RegValues.{RegValues}
-use Rattle.machine.specs.Values.{values_of}
+use Rattle.target.specs.declared.values.RegValues.{RegValues}
+use Rattle.target.specs.Values.{values_of}
 use Rattle.platform.specs.declared.exception.TheConstants.{EXCEPTIONS}
 use Rattle.platform.specs.declared.mpu.TheConstants.{MAX_REGIONS}
 use Rattle.platform.specs.Priorities.{is_in}

@@ -3,7 +3,7 @@
 ghost use Rattle.std.specs.Prelude.{◌≡◌, ◌≤◌, ◌++◌, length};
 ghost use Rattle.debugger.specs.Answers.{after_edge, change_piece, change_text, placed, refusal_text};
 ghost use Rattle.debugger.specs.Slots.{HaveRoom, saved_in, slots_by};
-ghost use Rattle.machine.specs.Starts.{Places};
+ghost use Rattle.target.specs.Placing.{Places};
 ghost use Rattle.platform.specs.Text.{line_feed, stop_text};
 
 use crate::slots::Slots;

@@ -1,6 +1,6 @@
--- Runs of the reference machine: one step more, and no more steps after a stop.
+-- Runs of the reference machine: no more steps after a stop, and the text of one step more.
 use Rattle.std.proofs.Common.{◌≡◌, ◌⊎◌, inl, inr, ℕ, zero, suc, ◌+◌, ◌-◌, ◌≤◌, List, [], ◌∷◌, ◌++◌, Option, Some}
-use Rattle.std.proofs.Common.{None, IsSome, refl, sym, ◌∙◌, ap, append_assoc, add-one, add-zero, arith, unwrap_or}
+use Rattle.std.proofs.Common.{None, IsSome, refl, sym, ◌∙◌, ap, append_assoc, add-zero, arith, unwrap_or}
 use Rattle.std.proofs.Common.{is_some, false}
 use Rattle.std.proofs.lemmas.List.{append-nil}
 use Rattle.std.specs.Io.KnownBytes.{Appends}
@@ -12,6 +12,7 @@ use Rattle.reference.specs.Run.{after, events_of, ending_of}
 use Rattle.reference.specs.State.{State}
 use Rattle.reference.specs.Step.{step, unless_stopped}
 use Rattle.platform.specs.Events.{lines}
+pub use Rattle.target.proofs.Running.{after_more, events_more, none_made}
 use Rattle.output.specs.Output.{GrowsByPrefix, IsCutAfter, IsCutShort}
 use Rattle.trace.proofs.Selecting.{lines-append, steps_joined}
 use Rattle.trace.specs.Selection.{steps_text}
@@ -27,19 +28,6 @@ stays_by s (Some why) e some = step_stopped s why e
 
 pub stays : (s : State) → IsSome s.stop → step s ≡ record { state = s; events = [] }
 stays s some = stays_by s s.stop refl some
-
--- one step more
-pub after_more : (n : ℕ) (s : State) → after (n + 1) s ≡ (step (after n s)).state
-unfolding after
-after_more n s = rw add-one refl
-
-pub events_more : (n : ℕ) (s : State) → events_of (n + 1) s ≡ events_of n s ++ (step (after n s)).events
-unfolding events_of
-events_more n s = rw add-one refl
-
-pub none_made : (s : State) → after 0 s ≡ s
-unfolding after
-none_made s = refl
 
 pub none_shown : (s : State) → lines (events_of 0 s) ≡ []
 unfolding events_of lines

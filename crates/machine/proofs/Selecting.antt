@@ -10,7 +10,7 @@ use Rattle.machine.specs.declared.machine.RunError.{RunError}
 use Rattle.machine.specs.declared.machine.RunError.TheVariants.{Write, Broken}
 use Rattle.machine.specs.Runs.{Fails, Leaves}
 use Rattle.machine.specs.Selected.{SelectedFails, SelectedLeaves}
-use Rattle.machine.specs.MachineModel.{MachineModel}
+use Rattle.target.specs.MachineModel.{MachineModel}
 use Rattle.output.specs.Output.{GrowsByPrefix, IsCutAfter, IsCutShort, Writing}
 use Rattle.platform.specs.declared.event.Event.{Event}
 use Rattle.platform.specs.declared.stop.Stop.{Stop}

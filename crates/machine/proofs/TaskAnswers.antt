@@ -6,7 +6,7 @@ use Rattle.std.specs.Io.KnownBytes.{Appends, Keeps}
 use Rattle.machine.proofs.Running.{none_made, none_shown}
 use Rattle.machine.specs.TaskRunLaw.{IsTaskRun, Makes, RanAlike, TaskRun, TaskRunsLaw}
 use Rattle.machine.specs.Tasks.{TaskEnds, TaskRuns}
-use Rattle.machine.specs.MachineModel.{MachineModel}
+use Rattle.target.specs.MachineModel.{MachineModel}
 use Rattle.platform.specs.declared.event.Event.{Event}
 use Rattle.platform.specs.declared.stop.Stop.{Stop}
 use Rattle.platform.specs.Events.{lines}

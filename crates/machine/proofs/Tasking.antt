@@ -5,7 +5,7 @@ use Rattle.std.proofs.lemmas.Bool.Decides.{nat_tests}
 use Rattle.std.proofs.KnownBytes.{Appends-nil}
 use Rattle.std.specs.Io.KnownBytes.{Appends}
 use Rattle.machine.proofs.Running.{cut_after, none_made, none_shown, steps_lines}
-use Rattle.machine.specs.Tasks.{TaskIsCut, TaskRuns, end_of}
+use Rattle.machine.specs.Tasks.{TaskIsCut, TaskRuns}
 use Rattle.output.specs.Output.{IsCutAfter, IsCutShort, Writing}
 use Rattle.platform.specs.declared.event.Event.{Event}
 use Rattle.platform.specs.declared.stop.Stop.{Stop}
@@ -13,6 +13,7 @@ use Rattle.reference.specs.Run.{after, events_of}
 use Rattle.reference.specs.State.{State}
 use Rattle.reference.specs.Step.{step}
 use Rattle.platform.specs.Events.{lines}
+use Rattle.target.specs.Endings.{end_of}
 use Rattle.task_laws.specs.declared.task.TaskEnd.TheVariants as task_end
 use Rattle.task_laws.specs.NextStep.{is_instruction_next}
 use Rattle.task_laws.specs.Tasks.{AreInstructions, EndsTask}

@@ -1,4 +1,5 @@
 pub use Rattle.task_laws.specs.NextStep
+pub use Rattle.target.specs.MachineModel
 pub use Rattle.trace.specs.Selection
 pub use Rattle.access.specs.Peek as PeekedWords
 pub mod Runs
@@ -7,8 +8,7 @@ pub mod Selected
 pub mod Starts
 pub mod TaskRunLaw
 pub mod Tasks
-pub mod Values
-pub mod MachineModel
+pub mod Execution
 pub mod Fetched
 pub mod Kept
 pub mod Permits

@@ -4,7 +4,7 @@ use Rattle.std.specs.Io.KnownBytes.{Keeps}
 use Rattle.machine.specs.declared.machine.RunError.{RunError}
 use Rattle.machine.specs.declared.machine.RunError.TheVariants.{Write, Broken}
 use Rattle.output.specs.Output.{IsCutAfter, Writing}
-use Rattle.machine.specs.MachineModel.{MachineModel}
+use Rattle.target.specs.MachineModel.{MachineModel}
 use Rattle.reference.specs.Run.{after, ending_of}
 use Rattle.reference.specs.State.{State}
 use Rattle.reference.specs.Step.{step}

@@ -2,7 +2,7 @@
 use Rattle.std.specs.Prelude.{ℕ}
 use Rattle.machine.specs.declared.machine.RunError.{RunError}
 use Rattle.machine.specs.Runs.{FailsIn, Leaves}
-use Rattle.machine.specs.MachineModel.{MachineModel}
+use Rattle.target.specs.MachineModel.{MachineModel}
 use Rattle.output.specs.Output.{Writing}
 use Rattle.reference.specs.Run.{events_of, ending_of}
 use Rattle.reference.specs.State.{State}

@@ -1,7 +1,6 @@
--- How a started machine, or one with a placed value, relates to the definition.
+-- How a started machine relates to the definition.
 use Rattle.std.specs.Prelude.{◌≡◌, false, Result, Ok, Err, IsOk}
-use Rattle.machine.specs.MachineModel.{MachineModel}
-use Rattle.platform.specs.declared.error.PlaceError.{PlaceError}
+use Rattle.target.specs.MachineModel.{MachineModel}
 use Rattle.platform.specs.declared.error.StartError.{StartError}
 use Rattle.platform.specs.declared.error.StartError.TheVariants.{SegmentOutsideMemory, NoMemory}
 use Rattle.reference.specs.State.{State}
@@ -18,13 +17,3 @@ abbrev pub Starts : Result State StartError → Result MachineModel StartError �
 Starts read (Ok m) = (read ≡ Ok m.state) × (m.broken ≡ false)
 Starts read (Err SegmentOutsideMemory) = read ≡ Err SegmentOutsideMemory
 Starts read (Err NoMemory) = IsOk read
-
--- a value was placed as the definition says, or refused as it says, and then nothing changed
-abbrev pub PlacesAt : Result State PlaceError → State → State → Result (Unit {0}) PlaceError → Type 0
-PlacesAt read old new (Ok done) = read ≡ Ok new
-PlacesAt read old new (Err error) = (read ≡ Err error) × (new ≡ old)
-
--- likewise for a machine
-abbrev pub Places : Result State PlaceError → MachineModel → MachineModel → Result (Unit {0}) PlaceError → Type 0
-Places read old new (Ok done) = (read ≡ Ok new.state) × (new.broken ≡ old.broken)
-Places read old new (Err error) = (read ≡ Err error) × (new ≡ old)

@@ -2,7 +2,7 @@
 use Rattle.std.specs.Prelude.{◌≡◌, ℕ, List}
 use Rattle.std.specs.Io.KnownBytes.{Appends}
 use Rattle.machine.specs.Tasks.{TaskEnds}
-use Rattle.machine.specs.MachineModel.{MachineModel}
+use Rattle.target.specs.MachineModel.{MachineModel}
 use Rattle.output.specs.Output.{Writing}
 use Rattle.platform.specs.Events.{lines}
 use Rattle.reference.specs.Invariant.{Invariant}

@@ -1,12 +1,11 @@
 -- What a run of a task leaves. What a task is, and how a run of it ends, is in Tasks of the crate `task_laws`.
-use Rattle.std.specs.Prelude.{◌≡◌, ℕ, ◌+◌, ◌≤◌, Bool, true, false, if◌then◌else◌, Option, Some, None}
+use Rattle.std.specs.Prelude.{◌≡◌, ℕ, ◌+◌, ◌≤◌, true, false, None}
 use Rattle.std.specs.Io.KnownBytes.{Appends, Keeps}
 use Rattle.machine.specs.declared.machine.RunError.{RunError}
 use Rattle.machine.specs.declared.machine.RunError.TheVariants.{Write, Broken}
 use Rattle.machine.specs.Runs.{CutInStep}
-use Rattle.machine.specs.MachineModel.{MachineModel}
+use Rattle.target.specs.MachineModel.{MachineModel}
 use Rattle.output.specs.Output.{Writing}
-use Rattle.platform.specs.declared.stop.Stop.{Stop}
 use Rattle.reference.specs.Run.{after, events_of}
 use Rattle.reference.specs.State.{State}
 use Rattle.platform.specs.Events.{lines}
@@ -57,8 +56,3 @@ TaskFails n old new out out' Broken = (new ≡ old) × Keeps out.written out'.wr
 abbrev pub CountsErrors : Writing → Writing → RunError → Type 0
 CountsErrors out out' (Write steps) = out'.errors ≡ out.errors + 1
 CountsErrors out out' Broken = out'.errors ≡ out.errors
-
--- why a run ended, by the stop of the machine and by whether steps of the limit are left
-abbrev pub end_of : Option Stop → Bool → TaskEnd
-end_of (Some why) left = task_end.Stopped why
-end_of None left = if left then task_end.Other else task_end.Done

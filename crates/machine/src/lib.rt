@@ -1,11 +1,12 @@
 //! The machine: steps, runs and their traces.
 #![tactic(auto)]
 
+mod as_target;
 mod at_once;
 pub mod laws;
 mod lists;
 mod machine;
-pub mod next_step;
+mod next_step;
 mod peeking;
 mod permit;
 mod placing;
@@ -25,7 +26,6 @@ pub use board::{Board, InterruptNumber, ScriptedEvent, Signal};
 pub use decode::{BoardDecodeTable, DecodeEachTime};
 pub use machine::{Fast, Machine, RunError, Slow};
 pub use mpu_table::{KeptDecisions, Table};
-pub use next_step::is_instruction;
 pub use nvic_levels::{BitLevels, KeptPriorities};
 pub use output::{Buffered, Cut, In, IoError, LineRoom, Out, Over, Paged};
 pub use platform::access::{Decision, Kind, Rule};
@@ -35,10 +35,10 @@ pub use platform::event::{Event, MAX_EVENTS};
 pub use platform::mpu::RegionCount;
 pub use platform::stop::Stop;
 pub use platform::system::StatusRegister;
-pub use readers::{Execution, RegValues};
+pub use readers::Execution;
 pub use reference::place::Place;
 pub use saving::SavedState;
-pub use task::end_of_task;
+pub use target::{RegValues, Target, end_of_task, is_instruction};
 pub use task_laws::{StepKind, TaskEnd};
 pub use trace::lines::{LinePage, event_line, stop_line};
 pub use trace::selection::TraceSelection;

@@ -5,7 +5,7 @@ ghost use Rattle.board.specs.Reading.{described};
 ghost use Rattle.machine.specs.Runs.{Fails};
 ghost use Rattle.reference.specs.Peek.{peek_memory_or_device};
 ghost use Rattle.machine.specs.Selected.{SelectedFails};
-ghost use Rattle.machine.specs.Starts.{Starts, Places};
+ghost use Rattle.machine.specs.Starts.{Starts};
 ghost use Rattle.machine.specs.Tasks.{CountsErrors, TaskEnds, TaskFails};
 ghost use Rattle.platform.specs.Memory.{byte_at, is_in_memory};
 ghost use Rattle.reference.specs.Places.{altered, place, signalled};
@@ -19,13 +19,15 @@ ghost use Rattle.step_laws.specs.SizeLaw.{AreOfOneBoard};
 ghost use Rattle.output.specs.Output.{Put, WritesAll};
 ghost use Rattle.reference.specs.Step.{step};
 ghost use Rattle.platform.specs.Events.{lines};
+ghost use Rattle.target.specs.Placing.{Places};
+ghost use Rattle.target.specs.Values.{values_of};
 ghost use Rattle.task_laws.specs.NextStep.{next_kind_of};
 ghost use Rattle.task_laws.specs.Tasks.{is_task};
 ghost use Rattle.trace.specs.Emission.{with_emitted};
 ghost use Rattle.trace.specs.Selection.{selected_trace};
 
 use crate::permit::Permit;
-use crate::readers::{Execution, RegValues};
+use crate::readers::Execution;
 use crate::run::{run_core, write_step};
 use crate::saving::SavedState;
 use crate::start::start_core;
@@ -54,6 +56,7 @@ use platform::system::StatusRegister;
 use reference::place::Place;
 use std::alloc::{AllocError, Global};
 use std::marker::Model;
+use target::RegValues;
 use task_laws::{StepKind, TaskEnd};
 use trace::selection::TraceSelection;
 use trace::sink::{Events, Sink};
@@ -92,7 +95,7 @@ pub type Fast = Machine<
 >;
 
 impl<D: Decider, C: KeptCode, L: Exceptions, U: SysTickState> Model for Machine<D, C, L, U> {
-    ghost use Rattle.machine.specs.MachineModel.{MachineModel};
+    ghost use Rattle.target.specs.MachineModel.{MachineModel};
     ghost use Rattle.machine.specs.Permits.{PermitHolds};
 
     ghost Value = { MachineModel };
@@ -104,7 +107,7 @@ impl<D: Decider, C: KeptCode, L: Exceptions, U: SysTickState> Model for Machine<
 
 impl<D: Decider, C: KeptCode, L: Exceptions, U: SysTickState> Machine<D, C, L, U> {
     ghost use Rattle.machine.specs.Peek.{peek_byte};
-    ghost use Rattle.machine.specs.Values.{execution_of, values_of};
+    ghost use Rattle.machine.specs.Execution.{execution_of};
 
     /// Makes the machine of a board, with an image in its memory, before the first step.
     pub fn new(alloc: Global, image: &Image<'_>, board: &Board) -> Result<Self, StartError>

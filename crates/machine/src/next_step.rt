@@ -5,19 +5,12 @@ ghost use Rattle.platform.specs.Priorities.{candidate, is_below_zero};
 ghost use Rattle.platform.specs.Rules.{decision_of};
 ghost use Rattle.reference.specs.State.{ticked};
 ghost use Rattle.reference.specs.Step.{sleeps_on};
-ghost use Rattle.task_laws.specs.NextStep.{is_instruction, kind_after, next_kind_of};
+ghost use Rattle.task_laws.specs.NextStep.{kind_after, next_kind_of};
 
 use crate::stepping::{CLOCK_END, Processor};
 use access::{Decider, Exceptions, KeptCode, SysTickState};
 use platform::access::{Decision, Kind};
 use task_laws::StepKind;
-
-/// Returns whether a step is an Instruction step.
-pub fn is_instruction(kind: Option<StepKind>) -> bool
-    ensures { result ≡ is_instruction kind }
-{
-    matches!(kind, Some(StepKind::Instruction))
-}
 
 impl<D: Decider, C: KeptCode, L: Exceptions, U: SysTickState> Processor<D, C, L, U> {
     /// Returns what the next step will do, None where it would only stop.

@@ -2,7 +2,7 @@
 
 ghost use Rattle.std.specs.Prelude.{◌≡◌, true};
 ghost use Rattle.instruction_set.specs.RowOperands.{special_of};
-ghost use Rattle.machine.specs.Starts.{PlacesAt};
+ghost use Rattle.target.specs.Placing.{PlacesAt};
 ghost use Rattle.reference.specs.declared.place.Place.TheVariants.{Word};
 ghost use Rattle.platform.specs.Map.{is_in_ppb};
 ghost use Rattle.reference.specs.Places.{place, altered, is_there, is_plain, is_wired, is_word_aligned, signalled};

@@ -14,23 +14,7 @@ use access::{Decider, Exceptions, KeptCode, SysTick, SysTickState};
 use instruction_set::size::Size;
 use mpu::MpuRegs;
 use platform::system::StatusRegister;
-
-/// The values of the core registers, each as a word.
-#[derive(Clone, Copy)]
-pub struct RegValues {
-    /// R0 to R12.
-    pub general: [u32; 13],
-    pub msp: u32,
-    pub psp: u32,
-    pub lr: u32,
-    /// The address of the next instruction.
-    pub pc: u32,
-    pub xpsr: u32,
-    pub control: u32,
-    pub primask: u32,
-    pub faultmask: u32,
-    pub basepri: u32,
-}
+use target::RegValues;
 
 /// What the core runs.
 #[derive(Clone, Copy)]
@@ -46,7 +30,8 @@ pub struct Execution {
 }
 
 impl<D: Decider, C: KeptCode, L: Exceptions, U: SysTickState> Processor<D, C, L, U> {
-    ghost use Rattle.machine.specs.Values.{execution_of, values_of};
+    ghost use Rattle.machine.specs.Execution.{execution_of};
+    ghost use Rattle.target.specs.Values.{values_of};
 
     /// What the core runs.
     #[inline]

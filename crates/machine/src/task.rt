@@ -2,16 +2,15 @@
 
 ghost use Rattle.std.specs.Prelude.{◌≡◌, ◌+◌, IfOk, IfErr, OnOk};
 ghost use Rattle.machine.specs.Permits.{PermitHolds};
-ghost use Rattle.machine.specs.Tasks.{TaskIsCut, TaskRuns, end_of};
+ghost use Rattle.machine.specs.Tasks.{TaskIsCut, TaskRuns};
 ghost use Rattle.task_laws.specs.Tasks.{is_task};
 
-use crate::next_step::is_instruction;
 use crate::permit::Permit;
 use crate::run::write_step;
 use crate::stepping::Processor;
 use access::{Decider, Exceptions, KeptCode, SysTickState};
 use output::{LineRoom, Out};
-use platform::stop::Stop;
+use target::{end_of_task, is_instruction};
 use task_laws::TaskEnd;
 
 impl<D: Decider, C: KeptCode, L: Exceptions, U: SysTickState> Processor<D, C, L, U> {
@@ -55,16 +54,4 @@ pub fn run_task_core<D: Decider, C: KeptCode, L: Exceptions, U: SysTickState, W:
         }
     }
     Ok(end_of_task(core.stop(), made < limit))
-}
-
-/// Returns why a run of a task has ended, by the stop of the machine and by whether steps of the limit are
-/// left.
-pub fn end_of_task(stop: Option<Stop>, left: bool) -> TaskEnd
-    ensures { result ≡ end_of stop left }
-{
-    match stop {
-        Some(stop) => TaskEnd::Stopped(stop),
-        None if left => TaskEnd::Other,
-        None => TaskEnd::Done,
-    }
 }

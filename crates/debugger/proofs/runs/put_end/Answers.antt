@@ -3,7 +3,7 @@ use Rattle.debugger.proofs.Running.{end_same}
 use Rattle.serving.proofs.Delivering.{put_delivers}
 use Rattle.debugger.specs.Answers.{end_piece}
 use Rattle.debugger_commands.specs.Conditions.{run_end_text}
-use Rattle.machine.specs.declared.readers.RegValues.{RegValues}
+use Rattle.target.specs.declared.values.RegValues.{RegValues}
 use Rattle.debugger.proofs.runs.put_end.Goals as goal
 
 pub returns : goal.returns

@@ -2,7 +2,7 @@ use Rattle.std.proofs.Common.{◌≡◌, ◌⊎◌, inl, inr, true, false, Optio
 use Rattle.debugger.proofs.Tasking.{task_cut, task_ends, task_more}
 use Rattle.serving.proofs.Delivering.{delivers_nothing, delivers_rest}
 use Rattle.machine.specs.NextStep.{is_instruction, is_instruction_next}
-use Rattle.machine.specs.Tasks.{end_of}
+use Rattle.target.specs.Endings.{end_of}
 use Rattle.platform.specs.declared.stop.Stop.{Stop}
 use Rattle.debugger.proofs.tasks.task_on.Goals as goal
 use Rattle.debugger.proofs.tasks.task_on.Goals.{else-steps-test, then-steps-test+then-not-is_instruction}

@@ -1,5 +1,5 @@
 use Rattle.std.proofs.Common.{◌≡◌, Some, refl, sym, ap, ◌∙◌}
-use Rattle.machine.specs.MachineModel.{MachineModel}
+use Rattle.target.specs.MachineModel.{MachineModel}
 use Rattle.machine.proofs.Tasking.{not_both, stopped_before}
 use Rattle.machine.proofs.machine.Machine.run_task.Goals as goal
 
