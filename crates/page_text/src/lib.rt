@@ -16,6 +16,4 @@ mod permissions;
 pub mod rows;
 pub mod settings;
 pub mod sums;
-#[cfg(test)]
-mod tests;
 pub mod words;

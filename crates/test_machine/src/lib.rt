@@ -1,5 +1,5 @@
-//! Runs of whole machines: what they write, and the state afterwards. Tests alone, over the public
-//! functions of `machine`; the values come from the manual (ARM DDI 0403).
+//! Runs of whole machines: what they write, and the state afterwards; and parts of machines. Tests alone, over public
+//! functions; the values come from the manual (ARM DDI 0403).
 #![tactic(auto)]
 
 #[cfg(test)]

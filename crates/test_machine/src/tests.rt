@@ -1,11 +1,17 @@
 mod arguments;
+mod boards;
 mod both;
 mod cut;
 mod cut_sessions;
 mod cuts;
 mod files;
 mod growths;
+mod images;
+mod intervals;
+mod levels;
+mod lines;
 mod machines;
+mod priorities;
 mod short_files;
 mod short_messages;
 mod starts;

@@ -23,7 +23,7 @@ pub fn outcome(alloc: Global, table: &str, row: &str) -> io::Result<Outcome> {
 }
 
 /// The five lines of the small board.
-pub const SMALL: &str = "\
+const SMALL: &str = "\
 flash_base = 0
 flash_size = 4096
 ram_size = 8192

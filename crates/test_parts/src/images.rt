@@ -8,15 +8,15 @@ use std::io;
 use test_tables::{Outcome, byte_at, compared, numbers, pair, part};
 
 /// The bytes of a file.
-pub type File = ArrayVec<u8, 2104>;
+type File = ArrayVec<u8, 2104>;
 
 /// Appends a byte to those of a file.
-pub fn push_byte(file: &mut File, byte: u8) -> Option<()> {
+fn push_byte(file: &mut File, byte: u8) -> Option<()> {
     file.try_push(byte).ok()
 }
 
 /// Appends bytes to those of a file. The text has this character between two of them.
-pub fn push_bytes(file: &mut File, text: &str, between: char) -> Option<()> {
+fn push_bytes(file: &mut File, text: &str, between: char) -> Option<()> {
     'bytes: for byte in text.split(between) {
         push_byte(file, byte_at(byte, 0)?)?;
     }
@@ -40,7 +40,7 @@ fn put(file: &mut File, word: &str) -> Option<()> {
 }
 
 /// The file of a listing with other bytes at places.
-pub fn edited(listing: &str, edits: &str) -> Option<File> {
+fn edited(listing: &str, edits: &str) -> Option<File> {
     let mut file = file_of(listing)?;
     'edits: for edit in edits.split_whitespace() {
         put(&mut file, edit)?;
@@ -76,7 +76,7 @@ fn write_segment(answer: &mut String, segment: &Segment<'_>) -> Option<()> {
 }
 
 /// What a file is: the name of its refusal, or `taken` and its segments.
-pub fn answer(alloc: Global, file: &[u8]) -> Option<String> {
+fn answer(alloc: Global, file: &[u8]) -> Option<String> {
     match load(file) {
         Err(error) => name(error).to_string(alloc).ok(),
         Ok(image) => {
@@ -143,7 +143,7 @@ pub fn outcome(alloc: Global, table: &str, row: &str) -> io::Result<Outcome> {
 }
 
 /// A header at 0, one program header at 34, and its segment's 12 bytes from 54 on.
-pub const WORKED: &str = "\
+const WORKED: &str = "\
 7F 45 4C 46 01 01 01 00              | e_ident
 00 00 00 00 00 00 00 00
 02 00 28 00 01 00 00 00              | e_type, e_machine, e_version

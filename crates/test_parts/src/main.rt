@@ -1,5 +1,5 @@
-//! The tests of the crates below the machine: tables of rows in `data`, whose values come from the manual
-//! (ARM DDI 0403) and from the formats' own texts, and tests that are no rows.
+//! The tests of single crates, most of them below the machine: tables of rows in `data`, whose values come from the manual
+//! (ARM DDI 0403) and from the formats' own texts.
 #![tactic(auto)]
 
 use std::alloc::Global;
@@ -15,14 +15,13 @@ mod device_accesses;
 mod device_tables;
 mod images;
 mod memory;
+mod page_words;
 mod priorities;
 mod region_registers;
 mod regions;
 mod settings;
 mod special_registers;
 mod system_registers;
-#[cfg(test)]
-mod tests;
 mod ticks;
 mod trace_lines;
 mod words;
@@ -57,6 +56,7 @@ impl Kinds for AllTables {
             ("device_tables", name) => device_tables::outcome(alloc, name, row),
             ("images", name) => images::outcome(alloc, name, row),
             ("memory", name) => memory::outcome(alloc, name, row),
+            ("page_words", name) => page_words::outcome(alloc, name, row),
             ("priorities", name) => priorities::outcome(alloc, name, row),
             ("region_registers", name) => region_registers::outcome(alloc, name, row),
             ("regions", name) => regions::outcome(alloc, name, row),

@@ -22,7 +22,7 @@ pub fn outcome(alloc: Global, table: &str, row: &str) -> io::Result<Outcome> {
 }
 
 /// After a reset, on a board of 8 interrupts whose priorities have 4 bits.
-pub fn after_reset() -> PlainExceptions {
+fn after_reset() -> PlainExceptions {
     PlainExceptions::fresh(8, 4)
 }
 

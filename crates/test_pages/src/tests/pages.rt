@@ -1,9 +1,10 @@
-//! The page of a run of two steps.
+//! The page of a run of two steps, and a page in memory.
 
 use access_map::Worlds;
 use elf::load;
 use machine::{Board, Events, Fast, Layout, SMALL_BOARD, Stop};
 use page_text::access_table::AccessTable;
+use page_text::html_page::HtmlPage;
 use report::{Report, write_page};
 use std::io::Write;
 use std::test::*;
@@ -183,5 +184,14 @@ fn a_writer_that_fails_is_an_error(rt: HostRuntime) -> Result<(), Fail> {
         assert!(rt; !write_to(&rt, &mut room, &symbols)?, "{left} bytes");
         assert!(rt; room.bytes.len() <= left);
     }
+    Ok(())
+}
+
+#[test]
+fn a_page_has_its_first_and_its_last_line(rt: HostRuntime) -> Result<(), Fail> {
+    let mut page = HtmlPage::new(rt.alloc(), 64)?;
+    page.write_all(b"<html>\n")?;
+    let bytes = page.end()?;
+    assert!(rt; bytes.as_slice() == b"<!DOCTYPE html>\n<html>\n</html>\n".as_slice());
     Ok(())
 }

@@ -1,8 +1,7 @@
 //! What kept decisions keep, and time kept ahead beside time that is counted.
 
-use crate::settings::write_pairs;
 use clock::{Clock, LazySysTick, Script, ScriptedEvent, Signal};
-use mpu::{Decider, Kind, MpuRegs};
+use mpu::{Decider, Kind, MpuRegister, MpuRegs};
 use mpu_table::{KeptDecisions, Table};
 use std::test::*;
 
@@ -26,7 +25,7 @@ fn fetches_are_kept_until_the_registers_are_written(rt: HostRuntime) {
     );
     let _ = kept.decide_and_keep(0x4000_0000, Kind::Fetch, true, false);
     assert!(rt; !is_kept(&kept, 0x4000_0000), "where it is refused");
-    assert!(rt; write_pairs(&mut registers, "E000ED94:00000005").is_some());
+    assert!(rt; registers.write_reg(MpuRegister::Control, 5).is_ok());
     kept.reload(&registers);
     assert!(rt; !is_kept(&kept, 0x100), "after a write");
 }
@@ -57,7 +56,7 @@ fn rules_of_data_are_kept_until_the_registers_are_written(rt: HostRuntime) {
         kept.kept_rule(0x2000_0000, Kind::Vector, true).is_none(),
         "but for vectors"
     );
-    assert!(rt; write_pairs(&mut registers, "E000ED94:00000001").is_some());
+    assert!(rt; registers.write_reg(MpuRegister::Control, 1).is_ok());
     kept.reload(&registers);
     let _ = kept.decide_and_keep(0x2000_0000, Kind::Load, false, false);
     assert!(rt;

@@ -1,12 +1,11 @@
-//! What pends and is kept, call by call.
+//! Exceptions of boards of 8 and of 240 interrupts: what pends and is kept, call by call.
 
-use crate::priorities::after_reset;
 use nvic::{Exceptions, Masks, PlainExceptions};
 use std::test::*;
 
 #[test]
 fn a_disabled_line_waits(rt: HostRuntime) {
-    let mut levels = after_reset();
+    let mut levels = PlainExceptions::fresh(8, 4);
     levels.pend(16);
     assert!(rt; levels.is_interrupt_pending());
     assert!(rt; levels.best().is_none() && levels.candidate().is_none());

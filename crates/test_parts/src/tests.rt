@@ -1,6 +1,0 @@
-mod boards;
-mod images;
-mod intervals;
-mod levels;
-mod lines;
-mod priorities;
