@@ -5,15 +5,16 @@ import subprocess
 from concurrent.futures import ThreadPoolExecutor
 
 
-def counted(words):
-    """Returns how many instructions a command takes."""
+def counted(words, text=""):
+    """Returns how many instructions a command takes that reads this text."""
     valgrind = ["valgrind", "--tool=callgrind", "--callgrind-out-file=/dev/null"]
-    run = subprocess.run(valgrind + words, stdout=subprocess.DEVNULL, stderr=subprocess.PIPE, text=True)
+    run = subprocess.run(valgrind + words, input=text, stdout=subprocess.DEVNULL, stderr=subprocess.PIPE, text=True)
     return int(re.search(r"Collected : (\d+)", run.stderr)[1])
 
 
-def a_step(run, steps):
-    """Returns how many instructions a step takes: those of `run(2 * steps)`, a command, without those of `run(steps)`."""
+def a_step(run, steps, text=lambda count: ""):
+    """Returns how many instructions a step takes: those of `run(2 * steps)`, a command that reads `text(2 * steps)`,
+    without those of `run(steps)`."""
     with ThreadPoolExecutor(2) as pool:
-        less, more = pool.map(lambda count: counted(run(count)), [steps, 2 * steps])
+        less, more = pool.map(lambda count: counted(run(count), text(count)), [steps, 2 * steps])
     return (more - less) / steps

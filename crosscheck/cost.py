@@ -4,6 +4,7 @@ import sys
 
 import results
 from callgrind import a_step
+from ceilings import above
 from loops import EVENTS, LOOPS, REGIONS, SIZES, flash_of, image, script, timer_image, traced, with_regions, written
 
 MARM, PROGRAM, FOLDER = sys.argv[1:4]
@@ -62,3 +63,4 @@ for number, (name, text, paths) in enumerate(rows()):
         line += f"{count:14.1f}{count / first.setdefault(program, count):6.3f}"
     print(line, flush=True)
 results.append(f"crosscheck/cost.sh {STEPS}", figures)
+sys.exit(1 if above(figures) else 0)
