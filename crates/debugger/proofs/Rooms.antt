@@ -24,7 +24,7 @@ use Rattle.debugger_commands.specs.declared.conditions.Hit.{Hit}
 use Rattle.debugger_commands.specs.Commands.{change_of, quits, steps_of, task_steps_of}
 use Rattle.debugger_commands.specs.Conditions.{first_hit}
 use Rattle.debugger_commands.specs.Settings.{Settings, opened_settings, settings_after, without_conditions}
-use Rattle.machine.specs.NextStep.{is_instruction_next}
+use Rattle.target.specs.NextStep.{is_instruction_next}
 use Rattle.platform.specs.declared.error.PlaceError.{PlaceError}
 use Rattle.platform.specs.declared.exception.TheConstants.{MAX_INTERRUPTS}
 use Rattle.platform.specs.declared.script.Signal.TheVariants as signal

@@ -11,7 +11,7 @@ use Rattle.debugger_commands.specs.declared.conditions.Hit.{Hit}
 use Rattle.debugger_commands.specs.Commands.{change_of, steps_of, task_steps_of}
 use Rattle.debugger_commands.specs.Conditions.{first_hit, run_end_text}
 use Rattle.debugger_commands.specs.Settings.{Settings}
-use Rattle.machine.specs.MachineModel.{MachineModel}
+use Rattle.target.specs.MachineModel.{MachineModel}
 use Rattle.output.specs.Output.{Writing}
 use Rattle.platform.specs.declared.stop.Stop.{Stop}
 use Rattle.reference.specs.State.{State}

@@ -8,7 +8,7 @@ use Rattle.debugger.specs.Laws.{TaskLaw}
 use Rattle.debugger_commands.specs.Conditions.{written}
 use Rattle.debugger_commands.specs.Settings.{Settings, without_conditions}
 use Rattle.target.proofs.Running.{after_more, events_more, none_made}
-use Rattle.machine.specs.NextStep.{is_instruction_next}
+use Rattle.target.specs.NextStep.{is_instruction_next}
 use Rattle.target.specs.Endings.{end_of}
 use Rattle.platform.specs.declared.stop.Stop.{Stop}
 use Rattle.reference.specs.Run.{after, events_of}

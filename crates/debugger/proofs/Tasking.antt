@@ -6,9 +6,9 @@ use Rattle.debugger.proofs.Running.{step_cut, step_more}
 use Rattle.serving.proofs.Delivering.{HasDelivered}
 use Rattle.debugger.specs.Answers.{step_piece, task_on, task_piece}
 use Rattle.debugger_commands.specs.Settings.{Settings}
-use Rattle.machine.specs.NextStep.{is_instruction_next}
+use Rattle.target.specs.NextStep.{is_instruction_next}
 use Rattle.target.specs.Endings.{end_of}
-use Rattle.machine.specs.MachineModel.{MachineModel}
+use Rattle.target.specs.MachineModel.{MachineModel}
 use Rattle.output.specs.Output.{Writing}
 use Rattle.reference.specs.State.{State}
 use Rattle.reference.specs.Step.{step}

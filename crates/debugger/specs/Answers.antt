@@ -18,7 +18,7 @@ use Rattle.debugger_commands.specs.Commands.{change_of, part_of, quits, steps_of
 use Rattle.debugger_commands.specs.Conditions.{first_hit, run_end_text, written}
 use Rattle.debugger_commands.specs.Settings.{Settings, ok_text, settings_after, settings_text, without_conditions}
 use Rattle.debugger_commands.specs.Texts.{decision_text, help_text, memory_text, region_lines}
-use Rattle.machine.specs.NextStep.{is_instruction_next, next_kind_of}
+use Rattle.target.specs.NextStep.{is_instruction_next, next_kind_of}
 use Rattle.target.specs.Endings.{end_of}
 use Rattle.target.specs.Values.{values_of}
 use Rattle.platform.specs.declared.error.PlaceError.{PlaceError}

@@ -8,23 +8,21 @@ ghost use Rattle.platform.specs.Text.{line_feed, stop_text};
 
 use crate::slots::Slots;
 use debugger_commands::{Change, Edge, Reply, ok_text};
-use machine::{
-    Decider, Exceptions, InterruptNumber, KeptCode, Machine, Place, PlaceError, Signal, Stop,
-    SysTickState,
-};
+use platform::error::PlaceError;
 use platform::exception::MAX_INTERRUPTS;
+use platform::script::{InterruptNumber, Signal};
+use platform::stop::Stop;
+use reference::place::Place;
+use target::Target;
 
 /// Changes a machine, or saves its state in a slot. Returns the text of the answer.
-pub fn change<D: Decider, C: KeptCode, L: Exceptions, U: SysTickState>(
-    machine: &mut Machine<D, C, L, U>,
-    slots: &mut Slots<L, U>,
-    what: Change,
-) -> Reply
-    requires { HaveRoom slots.old machine.old.state.bus }
-    ensures text { result ≡ (change_piece machine.old.state (saved_in slots.old) what).text }
-    ensures state { machine.new
-        ≡ record machine.old { state = (change_piece machine.old.state (saved_in slots.old) what).state } }
-    ensures slots { slots.new ≡ slots_by machine.old.state slots.old what }
+pub fn change<T: Target>(machine: &mut T, slots: &mut Slots<T>, what: Change) -> Reply
+    requires { HaveRoom slots.old (T.model machine.old).state.bus }
+    ensures text { result ≡ (change_piece (T.model machine.old).state (saved_in slots.old) what).text }
+    ensures state { T.model machine.new ≡ record (T.model machine.old) {
+      state = (change_piece (T.model machine.old).state (saved_in slots.old) what).state;
+    } }
+    ensures slots { slots.new ≡ slots_by (T.model machine.old).state slots.old what }
 {
     match what {
         Change::Place(value) => change_text(place(machine, value)),
@@ -39,11 +37,8 @@ pub fn change<D: Decider, C: KeptCode, L: Exceptions, U: SysTickState>(
 }
 
 /// Puts a value into a register or a word, None into a register that no machine has.
-fn place<D: Decider, C: KeptCode, L: Exceptions, U: SysTickState>(
-    machine: &mut Machine<D, C, L, U>,
-    value: Option<Place>,
-) -> Result<(), PlaceError>
-    ensures { Places (placed machine.old.state value) machine.old machine.new result }
+fn place<T: Target>(machine: &mut T, value: Option<Place>) -> Result<(), PlaceError>
+    ensures { Places (placed (T.model machine.old).state value) (T.model machine.old) (T.model machine.new) result }
 {
     match value {
         Some(value) => machine.alter(value),
@@ -52,12 +47,9 @@ fn place<D: Decider, C: KeptCode, L: Exceptions, U: SysTickState>(
 }
 
 /// Does what an event of a script does on the interrupt of a number.
-fn signal<D: Decider, C: KeptCode, L: Exceptions, U: SysTickState>(
-    machine: &mut Machine<D, C, L, U>,
-    how: Edge,
-    number: u32,
-) -> Result<(), PlaceError>
-    ensures { Places (after_edge machine.old.state how number) machine.old machine.new result }
+fn signal<T: Target>(machine: &mut T, how: Edge, number: u32) -> Result<(), PlaceError>
+    ensures { Places (after_edge (T.model machine.old).state how number)
+        (T.model machine.old) (T.model machine.new) result }
 {
     if number >= u32::from(MAX_INTERRUPTS) {
         return Err(PlaceError::NoSuchPlace);

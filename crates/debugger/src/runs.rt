@@ -9,10 +9,10 @@ ghost use Rattle.reference.specs.Step.{step};
 ghost use Rattle.serving.specs.Pieces.{Delivers};
 
 use debugger_commands::{Hit, Settings};
-use machine::{
-    Decider, Event, Events, Exceptions, IoError, KeptCode, LineRoom, Machine, Out, SysTickState,
-    is_instruction,
-};
+use output::{IoError, LineRoom, Out};
+use platform::event::Event;
+use target::{Target, is_instruction};
+use trace::sink::Events;
 
 /// Room for the events of a step, and for the text of a line.
 #[derive(Drop)]
@@ -32,15 +32,15 @@ impl StepRoom {
 }
 
 /// Makes a step and writes its lines. Returns what its events hit, where one ends the run.
-pub fn write_step<D: Decider, C: KeptCode, L: Exceptions, U: SysTickState, W: Out>(
-    machine: &mut Machine<D, C, L, U>,
+pub fn write_step<T: Target, W: Out>(
+    machine: &mut T,
     settings: &Settings,
     room: &mut StepRoom,
     out: &mut W,
 ) -> Result<Option<Hit>, IoError>
-    ensures delivers { Delivers (step_piece settings.now machine.old.state ∷ []) machine.old machine.new
-        (W.writing out.old) (W.writing out.new) result }
-    ensures hit { IfOk result (λ hit. hit ≡ first_hit settings.now (step machine.old.state).events) }
+    ensures delivers { Delivers (step_piece settings.now (T.model machine.old).state ∷ [])
+        (T.model machine.old) (T.model machine.new) (W.writing out.old) (W.writing out.new) result }
+    ensures hit { IfOk result (λ hit. hit ≡ first_hit settings.now (step (T.model machine.old).state).events) }
 {
     if settings.is_plain() {
         match write_whole_step(machine, settings, &mut room.line, out) {
@@ -53,30 +53,30 @@ pub fn write_step<D: Decider, C: KeptCode, L: Exceptions, U: SysTickState, W: Ou
 }
 
 /// Makes a step and writes the lines of all its events, where the settings have each of them.
-fn write_whole_step<D: Decider, C: KeptCode, L: Exceptions, U: SysTickState, W: Out>(
-    machine: &mut Machine<D, C, L, U>,
+fn write_whole_step<T: Target, W: Out>(
+    machine: &mut T,
     settings: &Settings,
     room: &mut LineRoom,
     out: &mut W,
 ) -> Result<(), IoError>
     requires { is_plain settings.now ≡ true }
-    ensures { Delivers (step_piece settings.now machine.old.state ∷ []) machine.old machine.new
-        (W.writing out.old) (W.writing out.new) result }
+    ensures { Delivers (step_piece settings.now (T.model machine.old).state ∷ [])
+        (T.model machine.old) (T.model machine.new) (W.writing out.old) (W.writing out.new) result }
 {
     let _ = settings;
     machine.write_step(room, out)
 }
 
 /// Makes a step and writes the lines that the settings have of its events. Returns what its events hit.
-fn write_chosen_step<D: Decider, C: KeptCode, L: Exceptions, U: SysTickState, W: Out>(
-    machine: &mut Machine<D, C, L, U>,
+fn write_chosen_step<T: Target, W: Out>(
+    machine: &mut T,
     settings: &Settings,
     room: &mut StepRoom,
     out: &mut W,
 ) -> Result<Option<Hit>, IoError>
-    ensures delivers { Delivers (step_piece settings.now machine.old.state ∷ []) machine.old machine.new
-        (W.writing out.old) (W.writing out.new) result }
-    ensures hit { IfOk result (λ hit. hit ≡ first_hit settings.now (step machine.old.state).events) }
+    ensures delivers { Delivers (step_piece settings.now (T.model machine.old).state ∷ [])
+        (T.model machine.old) (T.model machine.new) (W.writing out.old) (W.writing out.new) result }
+    ensures hit { IfOk result (λ hit. hit ≡ first_hit settings.now (step (T.model machine.old).state).events) }
 {
     let _ = machine.step(&mut room.events);
     let events = room.events.as_slice();
@@ -121,22 +121,15 @@ fn put_line<W: Out>(
 }
 
 /// Returns whether the next step is an instruction at a breakpoint.
-fn is_hit<D: Decider, C: KeptCode, L: Exceptions, U: SysTickState>(
-    machine: &Machine<D, C, L, U>,
-    settings: &Settings,
-) -> bool
-    ensures { result ≡ is_hit settings.now.breakpoints machine.now.state }
+fn is_hit<T: Target>(machine: &T, settings: &Settings) -> bool
+    ensures { result ≡ is_hit settings.now.breakpoints (T.model machine.now).state }
 {
     settings.has_breakpoint(machine.regs().pc) && is_instruction(machine.next_kind())
 }
 
 /// Returns what is hit before the next step: by the events of the last one, or a breakpoint.
-fn hit_before<D: Decider, C: KeptCode, L: Exceptions, U: SysTickState>(
-    machine: &Machine<D, C, L, U>,
-    settings: &Settings,
-    hit: Option<Hit>,
-) -> Option<Hit>
-    ensures { result ≡ hit_before settings.now hit machine.now.state }
+fn hit_before<T: Target>(machine: &T, settings: &Settings, hit: Option<Hit>) -> Option<Hit>
+    ensures { result ≡ hit_before settings.now hit (T.model machine.now).state }
 {
     match hit {
         Some(hit) => Some(hit),
@@ -146,25 +139,22 @@ fn hit_before<D: Decider, C: KeptCode, L: Exceptions, U: SysTickState>(
 }
 
 /// Returns whether a run ends after a step: the machine has stopped, or something is hit.
-fn ends_at<D: Decider, C: KeptCode, L: Exceptions, U: SysTickState>(
-    machine: &Machine<D, C, L, U>,
-    hit: Option<Hit>,
-) -> bool
-    ensures { result ≡ ends_at hit machine.now.state }
+fn ends_at<T: Target>(machine: &T, hit: Option<Hit>) -> bool
+    ensures { result ≡ ends_at hit (T.model machine.now).state }
 {
     machine.stop().is_some() || hit.is_some()
 }
 
 /// Writes what was hit, in a session with scripts, and where the machine is: its stop, or the address of the next
 /// instruction.
-fn put_end<D: Decider, C: KeptCode, L: Exceptions, U: SysTickState, W: Out>(
-    machine: &Machine<D, C, L, U>,
+fn put_end<T: Target, W: Out>(
+    machine: &T,
     settings: &Settings,
     hit: Option<Hit>,
     out: &mut W,
 ) -> Result<(), IoError>
-    ensures { Delivers (end_piece settings.now hit machine.now.state ∷ []) machine.now machine.now
-        (W.writing out.old) (W.writing out.new) result }
+    ensures { Delivers (end_piece settings.now hit (T.model machine.now).state ∷ [])
+        (T.model machine.now) (T.model machine.now) (W.writing out.old) (W.writing out.new) result }
 {
     let page = settings.run_end_text(hit, machine.stop(), machine.regs().pc);
     out.put_all(page.as_slice())
@@ -172,16 +162,16 @@ fn put_end<D: Decider, C: KeptCode, L: Exceptions, U: SysTickState, W: Out>(
 
 /// Makes at most `steps` steps after the first one of a run, whose events hit `first`, and writes their lines and
 /// how the run ended.
-fn run_on<D: Decider, C: KeptCode, L: Exceptions, U: SysTickState, W: Out>(
-    machine: &mut Machine<D, C, L, U>,
+fn run_on<T: Target, W: Out>(
+    machine: &mut T,
     settings: &Settings,
     steps: u32,
     first: Option<Hit>,
     room: &mut StepRoom,
     out: &mut W,
 ) -> Result<(), IoError>
-    ensures { Delivers (run_on settings.now steps first machine.old.state) machine.old machine.new
-        (W.writing out.old) (W.writing out.new) result }
+    ensures { Delivers (run_on settings.now steps first (T.model machine.old).state)
+        (T.model machine.old) (T.model machine.new) (W.writing out.old) (W.writing out.new) result }
 {
     let mut left = steps;
     let mut hit = first;
@@ -201,14 +191,14 @@ fn run_on<D: Decider, C: KeptCode, L: Exceptions, U: SysTickState, W: Out>(
 
 /// Makes at most `steps` steps, and writes their lines and how the run ended. A machine that has stopped makes
 /// none.
-pub fn run<D: Decider, C: KeptCode, L: Exceptions, U: SysTickState, W: Out>(
-    machine: &mut Machine<D, C, L, U>,
+pub fn run<T: Target, W: Out>(
+    machine: &mut T,
     settings: &Settings,
     steps: u32,
     out: &mut W,
 ) -> Result<(), IoError>
-    ensures { Delivers (run_pieces settings.now steps machine.old.state) machine.old machine.new
-        (W.writing out.old) (W.writing out.new) result }
+    ensures { Delivers (run_pieces settings.now steps (T.model machine.old).state)
+        (T.model machine.old) (T.model machine.new) (W.writing out.old) (W.writing out.new) result }
 {
     if machine.stop().is_some() {
         return put_end(machine, settings, None, out);

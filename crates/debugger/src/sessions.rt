@@ -21,21 +21,23 @@ use debugger_commands::{
     Change, Command, LineBuffer, LineError, Settings, change_of, part_of, quits, read_line,
     steps_of, task_steps_of,
 };
-use machine::{Decider, Exceptions, In, IoError, KeptCode, Layout, Machine, Out, SysTickState};
+use output::{In, IoError, Out};
+use platform::board::Layout;
 use serving::{Protocol, SessionError, serve};
 use std::marker::Model;
+use target::Target;
 
 /// What a session keeps between two bytes, beside the machine.
 #[derive(Drop)]
-struct Debugger<L: Exceptions, U: SysTickState> {
+struct Debugger<T: Target> {
     settings: Settings,
     line_buffer: LineBuffer,
-    slots: Slots<L, U>,
+    slots: Slots<T>,
     // Whether no `quit` was read.
     is_open: bool,
 }
 
-impl<L: Exceptions, U: SysTickState> Model for Debugger<L, U> {
+impl<T: Target> Model for Debugger<T> {
     ghost use Rattle.debugger.specs.Held.{Held};
 
     ghost Value = { Held };
@@ -48,9 +50,9 @@ impl<L: Exceptions, U: SysTickState> Model for Debugger<L, U> {
     } };
 }
 
-impl<L: Exceptions, U: SysTickState> Debugger<L, U> {
+impl<T: Target> Debugger<T> {
     /// Returns what is kept before the first byte of a session on a board.
-    fn new(layout: Layout, slots: Slots<L, U>) -> Self
+    fn new(layout: Layout, slots: Slots<T>) -> Self
         ensures { result ≡ held_first (numbers_of layout) slots }
     {
         Debugger {
@@ -62,17 +64,12 @@ impl<L: Exceptions, U: SysTickState> Debugger<L, U> {
     }
 
     /// Answers a command that changes the machine, or saves its state.
-    fn change<D: Decider, C: KeptCode, W: Out>(
-        &mut self,
-        machine: &mut Machine<D, C, L, U>,
-        what: Change,
-        out: &mut W,
-    ) -> Result<(), IoError>
-        requires { HaveRoom self.old.slots machine.old.state.bus }
-        ensures delivers { Delivers (change_piece machine.old.state (saved_in self.old.slots) what ∷ []) machine.old
-            machine.new (W.writing out.old) (W.writing out.new) result }
+    fn change<W: Out>(&mut self, machine: &mut T, what: Change, out: &mut W) -> Result<(), IoError>
+        requires { HaveRoom self.old.slots (T.model machine.old).state.bus }
+        ensures delivers { Delivers (change_piece (T.model machine.old).state (saved_in self.old.slots) what ∷ [])
+            (T.model machine.old) (T.model machine.new) (W.writing out.old) (W.writing out.new) result }
         ensures kept { self.new ≡ record self.old {
-          slots = slots_by machine.old.state self.old.slots what;
+          slots = slots_by (T.model machine.old).state self.old.slots what;
         } }
     {
         let page = change(machine, &mut self.slots, what);
@@ -80,14 +77,14 @@ impl<L: Exceptions, U: SysTickState> Debugger<L, U> {
     }
 
     /// Answers a line that neither makes a step nor changes the machine.
-    fn reply<D: Decider, C: KeptCode, W: Out>(
+    fn reply<W: Out>(
         &mut self,
-        machine: &Machine<D, C, L, U>,
+        machine: &T,
         asked: Result<Command, LineError>,
         out: &mut W,
     ) -> Result<(), IoError>
         ensures text { Put (W.writing out.old) (W.writing out.new)
-            (reply_text machine.now.state self.old.settings asked) result }
+            (reply_text (T.model machine.now).state self.old.settings asked) result }
         ensures kept { self.new ≡ record self.old { settings = settings_after self.old.settings asked } }
     {
         let page = self.settings.take(asked);
@@ -98,19 +95,19 @@ impl<L: Exceptions, U: SysTickState> Debugger<L, U> {
     }
 
     /// Answers a line, up to the line after an answer.
-    fn answer_command<D: Decider, C: KeptCode, W: Out>(
+    fn answer_command<W: Out>(
         &mut self,
-        machine: &mut Machine<D, C, L, U>,
+        machine: &mut T,
         asked: Result<Command, LineError>,
         out: &mut W,
     ) -> Result<(), IoError>
-        requires { HaveRoom self.old.slots machine.old.state.bus }
-        ensures delivers { Delivers (answer_by machine.old.state self.old.settings (saved_in self.old.slots) asked
-            (steps_of asked) (task_steps_of asked)) machine.old machine.new (W.writing out.old) (W.writing out.new)
-            result }
+        requires { HaveRoom self.old.slots (T.model machine.old).state.bus }
+        ensures delivers { Delivers (answer_by (T.model machine.old).state self.old.settings (saved_in self.old.slots)
+            asked (steps_of asked) (task_steps_of asked)) (T.model machine.old) (T.model machine.new)
+            (W.writing out.old) (W.writing out.new) result }
         ensures kept { self.new ≡ record self.old {
           settings = settings_after self.old.settings asked;
-          slots = slots_after machine.old.state self.old.slots (change_of asked);
+          slots = slots_after (T.model machine.old).state self.old.slots (change_of asked);
         } }
     {
         match steps_of(asked) {
@@ -135,19 +132,19 @@ impl<L: Exceptions, U: SysTickState> Debugger<L, U> {
     }
 
     /// Answers a line.
-    fn answer<D: Decider, C: KeptCode, W: Out>(
+    fn answer<W: Out>(
         &mut self,
-        machine: &mut Machine<D, C, L, U>,
+        machine: &mut T,
         asked: Result<Command, LineError>,
         out: &mut W,
     ) -> Result<(), IoError>
-        requires { HaveRoom self.old.slots machine.old.state.bus }
-        ensures delivers { Delivers (answer machine.old.state self.old.settings (saved_in self.old.slots) asked)
-            machine.old
-            machine.new (W.writing out.old) (W.writing out.new) result }
+        requires { HaveRoom self.old.slots (T.model machine.old).state.bus }
+        ensures delivers { Delivers
+            (answer (T.model machine.old).state self.old.settings (saved_in self.old.slots) asked)
+            (T.model machine.old) (T.model machine.new) (W.writing out.old) (W.writing out.new) result }
         ensures kept { self.new ≡ record self.old {
           settings = settings_after self.old.settings asked;
-          slots = slots_after machine.old.state self.old.slots (change_of asked);
+          slots = slots_after (T.model machine.old).state self.old.slots (change_of asked);
         } }
     {
         match self.answer_command(machine, asked, out) {
@@ -161,16 +158,12 @@ impl<L: Exceptions, U: SysTickState> Debugger<L, U> {
     }
 
     /// Answers the line that was read, and begins the next one. `quit` closes the session.
-    fn answer_line<D: Decider, C: KeptCode, W: Out>(
-        &mut self,
-        machine: &mut Machine<D, C, L, U>,
-        out: &mut W,
-    ) -> Result<(), IoError>
-        requires { HaveRoom self.old.slots machine.old.state.bus }
-        ensures delivers { Delivers (line_answered (data_of self.old) machine.old.state) machine.old machine.new
-            (W.writing out.old) (W.writing out.new) result }
-        ensures kept { OnOk result (self.new ≡ held_after_line self.old machine.old.state) }
-        ensures room { OnOk result (HaveRoom self.new.slots machine.new.state.bus) }
+    fn answer_line<W: Out>(&mut self, machine: &mut T, out: &mut W) -> Result<(), IoError>
+        requires { HaveRoom self.old.slots (T.model machine.old).state.bus }
+        ensures delivers { Delivers (line_answered (data_of self.old) (T.model machine.old).state)
+            (T.model machine.old) (T.model machine.new) (W.writing out.old) (W.writing out.new) result }
+        ensures kept { OnOk result (self.new ≡ held_after_line self.old (T.model machine.old).state) }
+        ensures room { OnOk result (HaveRoom self.new.slots (T.model machine.new).state.bus) }
     {
         let asked = read_line(self.settings.slots(), self.line_buffer.line());
         self.line_buffer.clear();
@@ -182,7 +175,7 @@ impl<L: Exceptions, U: SysTickState> Debugger<L, U> {
     }
 }
 
-impl<L: Exceptions, U: SysTickState> Protocol<L, U> for Debugger<L, U> {
+impl<T: Target> Protocol<T> for Debugger<T> {
     ghost conduct = { holding };
 
     ghost ready = { λ d s. HaveRoom d.slots s.bus };
@@ -191,9 +184,9 @@ impl<L: Exceptions, U: SysTickState> Protocol<L, U> for Debugger<L, U> {
         self.is_open
     }
 
-    fn answer_byte<D: Decider, C: KeptCode, W: Out>(
+    fn answer_byte<W: Out>(
         &mut self,
-        machine: &mut Machine<D, C, L, U>,
+        machine: &mut T,
         byte: u8,
         out: &mut W,
     ) -> Result<(), IoError> {
@@ -205,11 +198,7 @@ impl<L: Exceptions, U: SysTickState> Protocol<L, U> for Debugger<L, U> {
     }
 
     /// Answers a last line without a line feed, if it has a byte.
-    fn finish<D: Decider, C: KeptCode, W: Out>(
-        &mut self,
-        machine: &mut Machine<D, C, L, U>,
-        out: &mut W,
-    ) -> Result<(), IoError> {
+    fn finish<W: Out>(&mut self, machine: &mut T, out: &mut W) -> Result<(), IoError> {
         if self.line_buffer.is_empty() {
             return Ok(());
         }
@@ -218,12 +207,9 @@ impl<L: Exceptions, U: SysTickState> Protocol<L, U> for Debugger<L, U> {
 }
 
 /// Writes the line after an answer.
-fn close<D: Decider, C: KeptCode, L: Exceptions, U: SysTickState, W: Out>(
-    machine: &Machine<D, C, L, U>,
-    out: &mut W,
-) -> Result<(), IoError>
-    ensures { Delivers (closing_piece machine.now.state ∷ []) machine.now machine.now
-        (W.writing out.old) (W.writing out.new) result }
+fn close<T: Target, W: Out>(machine: &T, out: &mut W) -> Result<(), IoError>
+    ensures { Delivers (closing_piece (T.model machine.now).state ∷ [])
+        (T.model machine.now) (T.model machine.now) (W.writing out.old) (W.writing out.new) result }
 {
     let page = closing_text(machine);
     out.put_all(page.as_slice())
@@ -233,16 +219,17 @@ fn close<D: Decider, C: KeptCode, L: Exceptions, U: SysTickState, W: Out>(
 /// numbers of the machine's board, which `script 1` answers, and `slots` has room for states of the machine. What waits
 /// to be sent is sent before a call of the reader that may wait, and at the end. Where the reader or the writer fails,
 /// the machine is in its state after the steps and the changes that were made.
-pub fn session<D: Decider, C: KeptCode, L: Exceptions, U: SysTickState, I: In, W: Out>(
-    machine: &mut Machine<D, C, L, U>,
+pub fn session<T: Target, I: In, W: Out>(
+    machine: &mut T,
     layout: Layout,
-    slots: Slots<L, U>,
+    slots: Slots<T>,
     reader: &mut I,
     out: &mut W,
 ) -> Result<(), SessionError>
-    requires { HaveRoom slots machine.old.state.bus }
-    ensures held { Sessions (session_of (numbers_of layout) (saved_in slots) machine.old.state) machine.old
-        machine.new (I.reading reader.old) (I.reading reader.new) (W.writing out.old) (W.writing out.new) result }
+    requires { HaveRoom slots (T.model machine.old).state.bus }
+    ensures held { Sessions (session_of (numbers_of layout) (saved_in slots) (T.model machine.old).state)
+        (T.model machine.old) (T.model machine.new) (I.reading reader.old) (I.reading reader.new)
+        (W.writing out.old) (W.writing out.new) result }
     ensures sent { NothingWaits (W.writing out.new) result }
 {
     let mut debugger = Debugger::new(layout, slots);

@@ -8,30 +8,30 @@ ghost use Rattle.platform.specs.Text.{line_feed};
 ghost use Rattle.step_laws.specs.SizeLaw.{AreOfOneBoard};
 
 use debugger_commands::{Reply, ok_text};
-use machine::{Decider, Exceptions, KeptCode, Machine, SavedState, SysTickState};
 use std::alloc::{AllocError, Global};
 use std::marker::Model;
+use target::Target;
 
 /// Room for a state, and whether one was saved there.
 #[derive(Drop)]
-struct Slot<L: Exceptions, U: SysTickState> {
-    saved: SavedState<L, U>,
+struct Slot<T: Target> {
+    saved: T::Saved,
     is_saved: bool,
 }
 
-impl<L: Exceptions, U: SysTickState> Model for Slot<L, U> {
+impl<T: Target> Model for Slot<T> {
     ghost use Rattle.debugger.specs.Slots.{Slot as TheSlot};
 
     ghost Value = { TheSlot };
 
-    ghost view = { λ s. record { state = s.saved; is_saved = s.is_saved } };
+    ghost view = { λ s. record { state = T.saved_state s.saved; is_saved = s.is_saved } };
 }
 
-impl<L: Exceptions, U: SysTickState> Slot<L, U> {
+impl<T: Target> Slot<T> {
     /// Saves the state of a machine.
-    fn save<D: Decider, C: KeptCode>(&mut self, machine: &Machine<D, C, L, U>)
-        requires { AreOfOneBoard self.old.state.bus machine.now.state.bus }
-        ensures { self.new ≡ record { state = machine.now.state; is_saved = true } }
+    fn save(&mut self, machine: &T)
+        requires { AreOfOneBoard self.old.state.bus (T.model machine.now).state.bus }
+        ensures { self.new ≡ record { state = (T.model machine.now).state; is_saved = true } }
     {
         machine.save_to(&mut self.saved);
         self.is_saved = true;
@@ -40,11 +40,11 @@ impl<L: Exceptions, U: SysTickState> Slot<L, U> {
 
 /// Slots for states of a machine, each with room for one.
 #[derive(Drop)]
-pub struct Slots<L: Exceptions, U: SysTickState> {
-    slots: Vec<Slot<L, U>>,
+pub struct Slots<T: Target> {
+    slots: Vec<Slot<T>>,
 }
 
-impl<L: Exceptions, U: SysTickState> Model for Slots<L, U> {
+impl<T: Target> Model for Slots<T> {
     ghost use Rattle.std.specs.Prelude.{List, length, ◌<◌};
     ghost use Rattle.debugger.specs.Slots.{Slot as TheSlot};
 
@@ -55,16 +55,12 @@ impl<L: Exceptions, U: SysTickState> Model for Slots<L, U> {
     ghost invariant = { λ s. length s.slots.items < 256 };
 }
 
-impl<L: Exceptions, U: SysTickState> Slots<L, U> {
+impl<T: Target> Slots<T> {
     /// Makes `count` slots in which nothing was saved, with room for the states of a machine, or fails where memory
     /// can't be allocated.
-    pub fn new<D: Decider, C: KeptCode>(
-        alloc: Global,
-        count: u8,
-        machine: &Machine<D, C, L, U>,
-    ) -> Result<Self, AllocError>
+    pub fn new(alloc: Global, count: u8, machine: &T) -> Result<Self, AllocError>
         ensures saved { IfOk result (λ slots. saved_in slots ≡ replicate count None) }
-        ensures room { IfOk result (λ slots. HaveRoom slots machine.now.state.bus) }
+        ensures room { IfOk result (λ slots. HaveRoom slots (T.model machine.now).state.bus) }
         ensures some { IfErr result (λ _. 0 < count) }
     {
         let mut slots = Vec::new(alloc);
@@ -87,9 +83,9 @@ impl<L: Exceptions, U: SysTickState> Slots<L, U> {
     }
 
     /// Saves the state of a machine in a slot. A slot that isn't there keeps nothing.
-    pub fn save<D: Decider, C: KeptCode>(&mut self, slot: u8, machine: &Machine<D, C, L, U>)
-        requires { HaveRoom self.old machine.now.state.bus }
-        ensures { self.new ≡ with_saved self.old slot machine.now.state }
+    pub fn save(&mut self, slot: u8, machine: &T)
+        requires { HaveRoom self.old (T.model machine.now).state.bus }
+        ensures { self.new ≡ with_saved self.old slot (T.model machine.now).state }
     {
         let slot = slot as usize;
         if slot < self.slots.len() {
@@ -98,8 +94,8 @@ impl<L: Exceptions, U: SysTickState> Slots<L, U> {
     }
 
     /// Returns the state that was saved in a slot, if one was.
-    fn saved(&self, slot: u8) -> Option<&SavedState<L, U>>
-        ensures { option_map (λ saved. saved.now) result ≡ slice_index_or (saved_in self.now) slot None }
+    fn saved(&self, slot: u8) -> Option<&T::Saved>
+        ensures { option_map (λ saved. T.saved_state saved.now) result ≡ slice_index_or (saved_in self.now) slot None }
     {
         let slot = self.slots.get(slot as usize)?;
         if slot.is_saved {
@@ -110,16 +106,12 @@ impl<L: Exceptions, U: SysTickState> Slots<L, U> {
     }
 
     /// Takes a machine back to the state that was saved in a slot. Returns the text of the answer.
-    pub fn go_back<D: Decider, C: KeptCode>(
-        &self,
-        slot: u8,
-        machine: &mut Machine<D, C, L, U>,
-    ) -> Reply
-        requires { HaveRoom self.now machine.old.state.bus }
+    pub fn go_back(&self, slot: u8, machine: &mut T) -> Reply
+        requires { HaveRoom self.now (T.model machine.old).state.bus }
         ensures text { result
-            ≡ (back_piece machine.old.state (slice_index_or (saved_in self.now) slot None)).text }
-        ensures state { machine.new ≡ record machine.old {
-          state = (back_piece machine.old.state (slice_index_or (saved_in self.now) slot None)).state;
+            ≡ (back_piece (T.model machine.old).state (slice_index_or (saved_in self.now) slot None)).text }
+        ensures state { T.model machine.new ≡ record (T.model machine.old) {
+          state = (back_piece (T.model machine.old).state (slice_index_or (saved_in self.now) slot None)).state;
         } }
     {
         match self.saved(slot) {

@@ -7,8 +7,10 @@ ghost use Rattle.platform.specs.declared.exception.TheConstants.{EXCEPTIONS};
 
 use crate::texts::{regions_text, registers_text};
 use debugger_commands::{Reply, put_register};
-use machine::{Decider, Exceptions, IoError, KeptCode, Machine, Out, StatusRegister, SysTickState};
+use output::{IoError, Out};
 use platform::exception::EXCEPTIONS;
+use platform::system::StatusRegister;
+use target::Target;
 use trace::page::Page;
 
 /// Room for the text of a state.
@@ -28,10 +30,8 @@ fn put_clock(page: &mut StatePage, ticks: u64)
 
 /// Returns the lines of the registers of faults, of VTOR and of CCR.
 #[tactic(auto, unfolding(crate::specs::StateText::status_lines, platform::specs::Status::read_status))]
-fn status_text<D: Decider, C: KeptCode, L: Exceptions, U: SysTickState>(
-    machine: &Machine<D, C, L, U>,
-) -> Reply
-    ensures { result ≡ status_lines machine.now.state.bus.system.status }
+fn status_text<T: Target>(machine: &T) -> Reply
+    ensures { result ≡ status_lines (T.model machine.now).state.bus.system.status }
 {
     let mut page = Reply::new();
     put_register(
@@ -77,12 +77,10 @@ fn put_number_if(page: &mut StatePage, number: u16, there: bool)
 
 /// Appends the line of the pending exceptions.
 #[tactic(auto, unfolding(crate::specs::StateText::numbers_below))]
-fn put_pending<D: Decider, C: KeptCode, L: Exceptions, U: SysTickState>(
-    page: &mut StatePage,
-    machine: &Machine<D, C, L, U>,
-)
+fn put_pending<T: Target>(page: &mut StatePage, machine: &T)
     requires { length page.old ≤ 4096 }
-    ensures text { page.new ≡ page.old ++ set_line (codes "PENDING") machine.now.state.bus.system.nvic.pending }
+    ensures text { page.new
+        ≡ page.old ++ set_line (codes "PENDING") (T.model machine.now).state.bus.system.nvic.pending }
     ensures short { length page.new ≤ length page.old + 5384 }
 {
     page.put(b"PENDING");
@@ -94,12 +92,9 @@ fn put_pending<D: Decider, C: KeptCode, L: Exceptions, U: SysTickState>(
 
 /// Appends the line of the active exceptions.
 #[tactic(auto, unfolding(crate::specs::StateText::numbers_below))]
-fn put_active<D: Decider, C: KeptCode, L: Exceptions, U: SysTickState>(
-    page: &mut StatePage,
-    machine: &Machine<D, C, L, U>,
-)
+fn put_active<T: Target>(page: &mut StatePage, machine: &T)
     requires { length page.old ≤ 10000 }
-    ensures { page.new ≡ page.old ++ set_line (codes "ACTIVE") machine.now.state.bus.system.nvic.active }
+    ensures { page.new ≡ page.old ++ set_line (codes "ACTIVE") (T.model machine.now).state.bus.system.nvic.active }
 {
     page.put(b"ACTIVE");
     'numbers: for number in 0..EXCEPTIONS {
@@ -110,10 +105,8 @@ fn put_active<D: Decider, C: KeptCode, L: Exceptions, U: SysTickState>(
 
 /// Returns the state of a machine, a line for each value.
 #[tactic(auto, using(crate::proofs::Joining::in_six))]
-pub fn state_page<D: Decider, C: KeptCode, L: Exceptions, U: SysTickState>(
-    machine: &Machine<D, C, L, U>,
-) -> StatePage
-    ensures { result ≡ state_text machine.now.state }
+pub fn state_page<T: Target>(machine: &T) -> StatePage
+    ensures { result ≡ state_text (T.model machine.now).state }
 {
     let mut page = StatePage::new();
     page.put_slice(registers_text(&machine.regs()).as_slice());
@@ -126,11 +119,8 @@ pub fn state_page<D: Decider, C: KeptCode, L: Exceptions, U: SysTickState>(
 }
 
 /// Writes the state of a machine, a line for each value.
-pub fn write_state<D: Decider, C: KeptCode, L: Exceptions, U: SysTickState, W: Out>(
-    machine: &Machine<D, C, L, U>,
-    out: &mut W,
-) -> Result<(), IoError>
-    ensures { Put (W.writing out.old) (W.writing out.new) (state_text machine.now.state) result }
+pub fn write_state<T: Target, W: Out>(machine: &T, out: &mut W) -> Result<(), IoError>
+    ensures { Put (W.writing out.old) (W.writing out.new) (state_text (T.model machine.now).state) result }
 {
     out.put_all(state_page(machine).as_slice())
 }

@@ -7,19 +7,14 @@ ghost use Rattle.serving.specs.Pieces.{Delivers};
 use crate::runs::{StepRoom, write_step};
 use crate::texts::task_text;
 use debugger_commands::Settings;
-use machine::{
-    Decider, Exceptions, IoError, KeptCode, Machine, Out, SysTickState, TaskEnd, end_of_task,
-    is_instruction,
-};
+use output::{IoError, Out};
+use target::{Target, end_of_task, is_instruction};
+use task_laws::TaskEnd;
 
 /// Writes why a run of a task ended.
-fn put_task_end<D: Decider, C: KeptCode, L: Exceptions, U: SysTickState, W: Out>(
-    machine: &Machine<D, C, L, U>,
-    end: TaskEnd,
-    out: &mut W,
-) -> Result<(), IoError>
-    ensures { Delivers (task_piece machine.now.state end ∷ []) machine.now machine.now
-        (W.writing out.old) (W.writing out.new) result }
+fn put_task_end<T: Target, W: Out>(machine: &T, end: TaskEnd, out: &mut W) -> Result<(), IoError>
+    ensures { Delivers (task_piece (T.model machine.now).state end ∷ [])
+        (T.model machine.now) (T.model machine.now) (W.writing out.old) (W.writing out.new) result }
 {
     let page = task_text(end);
     match out.put_all(page.as_slice()) {
@@ -30,14 +25,14 @@ fn put_task_end<D: Decider, C: KeptCode, L: Exceptions, U: SysTickState, W: Out>
 
 /// Makes at most `steps` steps, as long as they are Instruction steps, and writes their lines and why
 /// the run ended.
-fn task_on<D: Decider, C: KeptCode, L: Exceptions, U: SysTickState, W: Out>(
-    machine: &mut Machine<D, C, L, U>,
+fn task_on<T: Target, W: Out>(
+    machine: &mut T,
     settings: &Settings,
     steps: u32,
     out: &mut W,
 ) -> Result<(), IoError>
-    ensures { Delivers (task_on settings.now steps machine.old.state) machine.old machine.new
-        (W.writing out.old) (W.writing out.new) result }
+    ensures { Delivers (task_on settings.now steps (T.model machine.old).state)
+        (T.model machine.old) (T.model machine.new) (W.writing out.old) (W.writing out.new) result }
 {
     let mut room = StepRoom::new();
     let mut left = steps;
@@ -57,14 +52,14 @@ fn task_on<D: Decider, C: KeptCode, L: Exceptions, U: SysTickState, W: Out>(
 
 /// Makes at most `steps` steps of a task, and writes their lines and why the run ended. A machine that
 /// has stopped, or on which no task runs, makes none. Breakpoints and conditions don't end it.
-pub fn run_task<D: Decider, C: KeptCode, L: Exceptions, U: SysTickState, W: Out>(
-    machine: &mut Machine<D, C, L, U>,
+pub fn run_task<T: Target, W: Out>(
+    machine: &mut T,
     settings: &Settings,
     steps: u32,
     out: &mut W,
 ) -> Result<(), IoError>
-    ensures { Delivers (task_pieces settings.now steps machine.old.state) machine.old machine.new
-        (W.writing out.old) (W.writing out.new) result }
+    ensures { Delivers (task_pieces settings.now steps (T.model machine.old).state)
+        (T.model machine.old) (T.model machine.new) (W.writing out.old) (W.writing out.new) result }
 {
     if machine.stop().is_none() && !machine.is_task() {
         return put_task_end(machine, TaskEnd::NotTask, out);

@@ -12,20 +12,15 @@ use debugger_commands::{
     Part, Reply, byte_address, decision_text, help_text, put_byte, put_generals, put_region,
     put_register,
 };
-use machine::{
-    Decider, Exceptions, IoError, KeptCode, Machine, Out, RegValues, StepKind, Stop, SysTickState,
-    TaskEnd,
-};
+use output::{IoError, Out};
 use platform::mpu::MAX_REGIONS;
-use platform::stop::Unsupported;
+use platform::stop::{Stop, Unsupported};
+use target::{RegValues, Target};
+use task_laws::{StepKind, TaskEnd};
 
 /// Writes the text for a part of the machine.
-pub fn put_part<D: Decider, C: KeptCode, L: Exceptions, U: SysTickState, W: Out>(
-    machine: &Machine<D, C, L, U>,
-    part: Part,
-    out: &mut W,
-) -> Result<(), IoError>
-    ensures { Put (W.writing out.old) (W.writing out.new) (part_text machine.now.state part) result }
+pub fn put_part<T: Target, W: Out>(machine: &T, part: Part, out: &mut W) -> Result<(), IoError>
+    ensures { Put (W.writing out.old) (W.writing out.new) (part_text (T.model machine.now).state part) result }
 {
     match part {
         Part::Regs => out.put_all(registers_text(&machine.regs()).as_slice()),
@@ -60,10 +55,8 @@ fn put_next(page: &mut Reply, kind: Option<StepKind>, stop: Option<Stop>)
 }
 
 /// Returns the line of the kind of the next step, or of the stop.
-pub fn next_text<D: Decider, C: KeptCode, L: Exceptions, U: SysTickState>(
-    machine: &Machine<D, C, L, U>,
-) -> Reply
-    ensures { result ≡ next_text machine.now.state }
+pub fn next_text<T: Target>(machine: &T) -> Reply
+    ensures { result ≡ next_text (T.model machine.now).state }
 {
     let mut page = Reply::new();
     put_next(&mut page, machine.next_kind(), machine.stop());
@@ -71,10 +64,8 @@ pub fn next_text<D: Decider, C: KeptCode, L: Exceptions, U: SysTickState>(
 }
 
 /// Returns the line after an answer: the clock, PC and the kind of the next step, or the stop.
-pub fn closing_text<D: Decider, C: KeptCode, L: Exceptions, U: SysTickState>(
-    machine: &Machine<D, C, L, U>,
-) -> Reply
-    ensures { result ≡ closing_text machine.now.state }
+pub fn closing_text<T: Target>(machine: &T) -> Reply
+    ensures { result ≡ closing_text (T.model machine.now).state }
 {
     let mut page = Reply::new();
     page.put(b"= ");
@@ -125,15 +116,10 @@ pub fn registers_text(values: &RegValues) -> Reply
 
 /// Appends the first bytes of memory and of devices from an address on.
 #[tactic(auto, unfolding(debugger_commands::specs::Texts::bytes_text))]
-fn put_bytes<D: Decider, C: KeptCode, L: Exceptions, U: SysTickState>(
-    page: &mut Reply,
-    machine: &Machine<D, C, L, U>,
-    address: u32,
-    count: u32,
-)
+fn put_bytes<T: Target>(page: &mut Reply, machine: &T, address: u32, count: u32)
     requires few { count ≤ 256 }
     requires room { length page.old ≤ 9 }
-    ensures text { page.new ≡ page.old ++ bytes_text machine.now.state.bus address count }
+    ensures text { page.new ≡ page.old ++ bytes_text (T.model machine.now).state.bus address count }
     ensures short { length page.new ≤ 777 }
 {
     'offsets: for offset in 0..count {
@@ -145,13 +131,9 @@ fn put_bytes<D: Decider, C: KeptCode, L: Exceptions, U: SysTickState>(
 }
 
 /// Returns the line of `count` bytes of memory.
-pub fn memory_text<D: Decider, C: KeptCode, L: Exceptions, U: SysTickState>(
-    machine: &Machine<D, C, L, U>,
-    address: u32,
-    count: u32,
-) -> Reply
+pub fn memory_text<T: Target>(machine: &T, address: u32, count: u32) -> Reply
     requires { count ≤ 256 }
-    ensures { result ≡ memory_text machine.now.state.bus address count }
+    ensures { result ≡ memory_text (T.model machine.now).state.bus address count }
 {
     let mut page = Reply::new();
     page.put_word(address);
@@ -163,10 +145,8 @@ pub fn memory_text<D: Decider, C: KeptCode, L: Exceptions, U: SysTickState>(
 
 /// Returns the lines of the regions that the board has.
 #[tactic(auto, unfolding(debugger_commands::specs::Texts::region_lines))]
-pub fn regions_text<D: Decider, C: KeptCode, L: Exceptions, U: SysTickState>(
-    machine: &Machine<D, C, L, U>,
-) -> Reply
-    ensures { result ≡ region_lines machine.now.state.bus.system.mpu MAX_REGIONS }
+pub fn regions_text<T: Target>(machine: &T) -> Reply
+    ensures { result ≡ region_lines (T.model machine.now).state.bus.system.mpu MAX_REGIONS }
 {
     let mut page = Reply::new();
     'numbers: for number in 0..MAX_REGIONS {

@@ -48,7 +48,8 @@ impl<L: Exceptions, U: SysTickState> Server<L, U> {
     }
 }
 
-impl<L: Exceptions, U: SysTickState> Protocol<L, U> for Server<L, U> {
+impl<D: Decider, C: KeptCode, L: Exceptions, U: SysTickState> Protocol<Machine<D, C, L, U>>
+    for Server<L, U> {
     ghost use Rattle.gdb_past.specs.Ways.{IsAfterMark};
     ghost use Rattle.gdb_server.specs.Conduct.{conduct};
 
@@ -60,7 +61,7 @@ impl<L: Exceptions, U: SysTickState> Protocol<L, U> for Server<L, U> {
         self.session.is_open()
     }
 
-    fn answer_byte<D: Decider, C: KeptCode, W: Out>(
+    fn answer_byte<W: Out>(
         &mut self,
         machine: &mut Machine<D, C, L, U>,
         byte: u8,
@@ -71,7 +72,7 @@ impl<L: Exceptions, U: SysTickState> Protocol<L, U> for Server<L, U> {
             .take(machine, event, self.framer.content(), out)
     }
 
-    fn finish<D: Decider, C: KeptCode, W: Out>(
+    fn finish<W: Out>(
         &mut self,
         machine: &mut Machine<D, C, L, U>,
         out: &mut W,

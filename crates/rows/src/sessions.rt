@@ -76,7 +76,7 @@ fn answers<D: Decider, C: KeptCode, L: Exceptions, U: SysTickState>(
 fn hold<D: Decider, C: KeptCode, L: Exceptions, U: SysTickState>(
     machine: &mut Machine<D, C, L, U>,
     layout: Layout,
-    slots: Slots<L, U>,
+    slots: Slots<Machine<D, C, L, U>>,
     input: &[u8],
     out: Output,
 ) -> Option<Output>
@@ -103,7 +103,7 @@ struct Streams<'a> {
 fn hold_over<D: Decider, C: KeptCode, L: Exceptions, U: SysTickState, J: Ledger, K: Ledger>(
     machine: &mut Machine<D, C, L, U>,
     layout: Layout,
-    slots: Slots<L, U>,
+    slots: Slots<Machine<D, C, L, U>>,
     streams: Streams<'_>,
     first: Blank,
     second: Blank,

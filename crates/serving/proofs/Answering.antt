@@ -22,7 +22,7 @@ use Rattle.serving.specs.declared.sessions.SessionError.TheVariants.{Read, Write
 use Rattle.serving.specs.Sessions.{AreSoFar, Course, Ends, FailsOnce, FailsToRead, FailsToWrite, ReadsBytes}
 use Rattle.serving.specs.Sessions.{HoldsSession, KeepsPut}
 use Rattle.serving.specs.Sessions.{NothingWaits, SendsRest, Sessions, TakesNext}
-use Rattle.machine.specs.MachineModel.{MachineModel}
+use Rattle.target.specs.MachineModel.{MachineModel}
 use Rattle.output.specs.Input.{Reading}
 use Rattle.output.specs.Output.{Writing}
 use Rattle.reference.specs.State.{State}

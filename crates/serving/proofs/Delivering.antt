@@ -3,7 +3,7 @@ use Rattle.std.proofs.Common.{◌≡◌, ◌+◌, List, [], ◌∷◌, ◌++◌,
 use Rattle.std.proofs.KnownBytes.{Appends-nil, Appends-trans}
 use Rattle.std.proofs.lemmas.List.{append-nil}
 use Rattle.serving.specs.Pieces.{Piece, Delivers, DeliversAll, DeliversPart, last_state, texts}
-use Rattle.machine.specs.MachineModel.{MachineModel}
+use Rattle.target.specs.MachineModel.{MachineModel}
 use Rattle.output.specs.Output.{IsCutShort, Put, Writing}
 use Rattle.reference.specs.State.{State}
 

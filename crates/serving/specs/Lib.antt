@@ -1,4 +1,4 @@
-pub use Rattle.machine.specs.MachineModel
+pub use Rattle.target.specs.MachineModel
 pub use Rattle.output.specs.Input
 pub use Rattle.output.specs.Output
 pub mod Conduct

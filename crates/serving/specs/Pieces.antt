@@ -1,7 +1,7 @@
 -- Pieces of text, each with the state of the machine by the time that it is written (profile).
 use Rattle.std.specs.Prelude.{◌≡◌, ℕ, ◌+◌, List, [], ◌∷◌, ◌++◌, Result, Ok, Err}
 use Rattle.std.specs.Io.KnownBytes.{Appends}
-use Rattle.machine.specs.MachineModel.{MachineModel}
+use Rattle.target.specs.MachineModel.{MachineModel}
 use Rattle.output.specs.Output.{IsCutAfter, Writing}
 use Rattle.reference.specs.State.{State}
 

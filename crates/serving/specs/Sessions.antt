@@ -5,7 +5,7 @@ use Rattle.std.specs.Io.KnownBytes.{Consumes, IsAtEnd, Keeps}
 use Rattle.serving.specs.declared.sessions.SessionError.{SessionError}
 use Rattle.serving.specs.declared.sessions.SessionError.TheVariants.{Read, Write}
 use Rattle.serving.specs.Pieces.{Piece, DeliversAll, DeliversAllThenFails, DeliversPart}
-use Rattle.machine.specs.MachineModel.{MachineModel}
+use Rattle.target.specs.MachineModel.{MachineModel}
 use Rattle.output.specs.Input.{Reading}
 use Rattle.output.specs.Output.{Writing}
 

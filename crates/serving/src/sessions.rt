@@ -5,7 +5,8 @@ ghost use Rattle.serving.specs.Conduct.{course_of};
 ghost use Rattle.serving.specs.Sessions.{GivesByte, NothingWaits, SendsBefore, SendsRest, Sessions, TakesNext};
 
 use crate::protocol::Protocol;
-use machine::{Decider, Exceptions, In, IoError, KeptCode, Machine, Out, SysTickState};
+use output::{In, IoError, Out};
+use target::Target;
 
 /// Why a session ends before its input does.
 #[derive(Clone, Copy)]
@@ -19,24 +20,17 @@ pub enum SessionError {
 /// Reads bytes, and writes what a protocol answers to each of them, to the end of the input, or until the protocol
 /// reads no further. What waits to be sent is sent before a call of the reader that may wait, and at the end. Where
 /// the reader or the writer fails, the machine is in its state after the steps and the changes that were made.
-pub fn serve<
-    P: Protocol<L, U>,
-    D: Decider,
-    C: KeptCode,
-    L: Exceptions,
-    U: SysTickState,
-    I: In,
-    W: Out,
->(
+pub fn serve<P: Protocol<T>, T: Target, I: In, W: Out>(
     protocol: &mut P,
-    machine: &mut Machine<D, C, L, U>,
+    machine: &mut T,
     reader: &mut I,
     out: &mut W,
 ) -> Result<(), SessionError>
     requires open { (P.conduct).is_open protocol.old ≡ true }
-    requires ready { P.ready protocol.old machine.old.state }
-    ensures held { Sessions (course_of P.conduct protocol.old machine.old.state) machine.old machine.new
-        (I.reading reader.old) (I.reading reader.new) (W.writing out.old) (W.writing out.new) result }
+    requires ready { P.ready protocol.old (T.model machine.old).state }
+    ensures held { Sessions (course_of P.conduct protocol.old (T.model machine.old).state)
+        (T.model machine.old) (T.model machine.new) (I.reading reader.old) (I.reading reader.new)
+        (W.writing out.old) (W.writing out.new) result }
     ensures sent { NothingWaits (W.writing out.new) result }
 {
     'calls: for call in 0..u64::MAX {

@@ -109,7 +109,7 @@ fn session_over<D: Decider, C: KeptCode, L: Exceptions, U: SysTickState, K: Ledg
 fn answer<D: Decider, C: KeptCode, L: Exceptions, U: SysTickState, J: Ledger, K: Ledger>(
     machine: &mut Machine<D, C, L, U>,
     layout: Layout,
-    slots: Slots<L, U>,
+    slots: Slots<Machine<D, C, L, U>>,
     input: &mut Over<&[u8], J>,
     answers: Vec<u8>,
     blank: Blank,

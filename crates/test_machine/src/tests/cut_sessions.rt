@@ -81,7 +81,7 @@ struct Held {
 /// A session.
 fn hold<D: Decider, C: KeptCode, L: Exceptions, U: SysTickState>(
     machine: &mut Machine<D, C, L, U>,
-    slots: Slots<L, U>,
+    slots: Slots<Machine<D, C, L, U>>,
     way: Way,
 ) -> Held
     requires { HaveRoom slots machine.old.state.bus }
@@ -91,7 +91,7 @@ fn hold<D: Decider, C: KeptCode, L: Exceptions, U: SysTickState>(
 
 fn hold_over<D: Decider, C: KeptCode, L: Exceptions, U: SysTickState, J: Ledger, K: Ledger>(
     machine: &mut Machine<D, C, L, U>,
-    slots: Slots<L, U>,
+    slots: Slots<Machine<D, C, L, U>>,
     way: Way,
     first: Blank,
     second: Blank,
@@ -133,7 +133,7 @@ fn hold_over<D: Decider, C: KeptCode, L: Exceptions, U: SysTickState, J: Ledger,
 
 fn gather<D: Decider, C: KeptCode, L: Exceptions, U: SysTickState, I: In + Drop, K: Ledger>(
     machine: &mut Machine<D, C, L, U>,
-    slots: Slots<L, U>,
+    slots: Slots<Machine<D, C, L, U>>,
     mut input: I,
     mut out: Paged<machine::Cut<Over<Calls, K>>>,
 ) -> Held

@@ -8,7 +8,7 @@ use Rattle.debugger.proofs.runs.put_end.Goals as goal
 
 pub returns : goal.returns
 returns g c =
-    let s = c.args.machine.now.state in
+    let s = (g.T.Target.model c.args.machine.now).state in
     let same : c.as_slice.result.now ≡ run_end_text c.args.settings.now c.args.hit s.registers.pc s.stop =
     c.as_slice.ensures ∙ (c.run_end_text-page.ensures
     ∙ end_same c.args.settings.now c.args.hit _ _ _ _ (ap (λ (v : RegValues). v.pc) c.regs.ensures) c.stop.ensures) in

@@ -16,17 +16,17 @@ returns-then-ends_at g c =
 
 pub returns-in-Err : goal.returns-in-Err
 returns-in-Err g c =
-    let goes : ends_at (hit_before c.args.settings.now c.steps.hit c.steps.machine.state) c.steps.machine.state
-    ≡ false =
-    ap (λ (x : Option Hit). ends_at x c.steps.machine.state) (sym c.hit_before-now.ensures)
+    let s = (g.T.Target.model c.steps.machine).state in
+    let goes : ends_at (hit_before c.args.settings.now c.steps.hit s) s ≡ false =
+    ap (λ (x : Option Hit). ends_at x s) (sym c.hit_before-now.ensures)
     ∙ sym c.ends_at.ensures ∙ c.if-ends_at.false in
     run_cut c.args.settings.now _ _ _ _ _ _ _ _ _ c.steps-test.true goes c.steps.invariant c.in-Err.ensures.delivers
 
 pub steps-preserved : goal.steps-preserved
 steps-preserved g c =
-    let goes : ends_at (hit_before c.args.settings.now c.steps.hit c.steps.machine.state) c.steps.machine.state
-    ≡ false =
-    ap (λ (x : Option Hit). ends_at x c.steps.machine.state) (sym c.hit_before-now.ensures)
+    let s = (g.T.Target.model c.steps.machine).state in
+    let goes : ends_at (hit_before c.args.settings.now c.steps.hit s) s ≡ false =
+    ap (λ (x : Option Hit). ends_at x s) (sym c.hit_before-now.ensures)
     ∙ sym c.ends_at.ensures ∙ c.if-ends_at.false in
     run_more c.args.settings.now _ _ _ _ _ _ _ _ _ _ c.steps-test.true goes c.in-Ok.ensures.hit c.steps.invariant
     c.in-Ok.ensures.delivers

@@ -7,4 +7,4 @@ use Rattle.debugger.proofs.runs.write_step.Goals as goal
 pub returns-in-Ok-clause-hit : goal.returns-in-Ok-clause-hit
 returns-in-Ok-clause-hit g c =
     let plain : is_plain c.args.settings.now ≡ true = sym c.is_plain.ensures ∙ c.if-is_plain.true in
-    sym (plain_goes_on c.args.settings.now plain (step c.args.machine.now.state).events)
+    sym (plain_goes_on c.args.settings.now plain (step (g.T.Target.model c.args.machine.now).state).events)

@@ -9,6 +9,6 @@ serve-requires-clause-ready g c = rw c.new-debugger.ensures c.requires
 pub returns-clause-held : goal.returns-clause-held
 returns-clause-held g c =
     subst
-    (λ (t : Course). Sessions t c.args.machine.now c.serve.new.machine (g.I.In.reading c.args.reader.now)
-    (g.I.In.reading c.serve.new.reader) (g.W.Out.writing c.args.out.now) (g.W.Out.writing c.serve.new.out)
-    c.serve.result) (session_is _ _ _ _ c.new-debugger.ensures) c.serve.ensures.held
+    (λ (t : Course). Sessions t (g.T.Target.model c.args.machine.now) (g.T.Target.model c.serve.new.machine)
+    (g.I.In.reading c.args.reader.now) (g.I.In.reading c.serve.new.reader) (g.W.Out.writing c.args.out.now)
+    (g.W.Out.writing c.serve.new.out) c.serve.result) (session_is _ _ _ _ c.new-debugger.ensures) c.serve.ensures.held

@@ -5,5 +5,5 @@ use Rattle.debugger.proofs.state.put_active.Goals as goal
 pub returns : goal.returns
 returns g c =
     let all : c.numbers.number ≡ 256 = omega arith in
-    line_ended c.args.machine.now.state.bus.system.nvic.active _ _ (codes "ACTIVE") _ _ all c.numbers.invariant.text
-    c.put-2.ensures
+    line_ended (g.T.Target.model c.args.machine.now).state.bus.system.nvic.active _ _ (codes "ACTIVE") _ _ all
+    c.numbers.invariant.text c.put-2.ensures

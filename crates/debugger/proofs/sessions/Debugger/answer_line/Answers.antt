@@ -3,12 +3,12 @@ use Rattle.debugger.proofs.Rooms.{line_held, room_after}
 use Rattle.debugger.specs.Held.{Held, data_of}
 use Rattle.debugger.specs.Sessions.{line_asked}
 use Rattle.debugger.specs.Slots.{HaveRoom}
-use Rattle.machine.specs.MachineModel.{MachineModel}
+use Rattle.target.specs.MachineModel.{MachineModel}
 use Rattle.debugger.proofs.sessions.Debugger.answer_line.Goals as goal
 
 pub returns-in-Ok-clause-kept : goal.returns-in-Ok-clause-kept
 returns-in-Ok-clause-kept g c =
-    let s = c.args.machine.now.state in
+    let s = (g.T.Target.model c.args.machine.now).state in
     let h : Held = record {
       settings = c.self.inside.settings;
       line = c.self.inside.line_buffer;
@@ -21,7 +21,8 @@ returns-in-Ok-clause-kept g c =
 
 pub returns-in-Ok-clause-room : goal.returns-in-Ok-clause-room
 returns-in-Ok-clause-room g c =
-    let room : HaveRoom c.self.inside.slots c.args.machine.now.state.bus = rw (← c.self.view_is) at c.requires in
-    room_after c.self.inside.settings c.args.machine.now.state _ c.self.inside.slots _ c.read_line-asked.result room
+    let s = (g.T.Target.model c.args.machine.now).state in
+    let room : HaveRoom c.self.inside.slots s.bus = rw (← c.self.view_is) at c.requires in
+    room_after c.self.inside.settings s _ c.self.inside.slots _ c.read_line-asked.result room
     (ap (λ (h : Held). h.slots) c.answer.ensures.kept)
     (ap (λ (m : MachineModel). m.state) c.in-Ok.ensures.delivers.stands)

@@ -7,6 +7,7 @@ use Rattle.serving.specs.Pieces.{Piece}
 
 pub returns-clause-delivers : goal.returns-clause-delivers
 returns-clause-delivers g c =
-    let piece : Piece = change_piece c.args.machine.now.state (saved_in c.self.inside.slots) c.args.what in
+    let s = (g.T.Target.model c.args.machine.now).state in
+    let piece : Piece = change_piece s (saved_in c.self.inside.slots) c.args.what in
     let same : c.as_slice.result.now ≡ piece.text = c.as_slice.ensures ∙ c.change-page.ensures.text in
     rw (← c.self.view_is) (put_delivers piece _ _ _ _ _ (rw (← same) c.put_all.ensures) c.change-page.ensures.state)

@@ -5,9 +5,9 @@ use Rattle.debugger.proofs.slots.Slots.new.Goals as goal
 
 pub slots-preserved : goal.slots-preserved
 slots-preserved g c =
-    let slot : Slot = record { state = c.in_ok-save.field-0; is_saved = false } in
-    one_made c.slots.number c.slots.slots.items _ slot c.args.machine.now.state c.slots.invariant refl
-    c.in_ok-save.ensures c.in_ok-push.ensures.items
+    let slot : Slot = record { state = g.T.Target.saved_state c.in_ok-save.field-0; is_saved = false } in
+    one_made c.slots.number c.slots.slots.items _ slot (g.T.Target.model c.args.machine.now).state c.slots.invariant
+    refl c.in_ok-save.ensures c.in_ok-push.ensures.items
 
 pub invariant_of-result : goal.invariant_of-result
 invariant_of-result g c =

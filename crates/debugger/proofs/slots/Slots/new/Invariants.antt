@@ -3,4 +3,4 @@ use Rattle.debugger.proofs.slots.Slots.new.Given as goal
 
 -- this many slots were made
 abbrev pub invariant-slots : goal.invariant-slots
-invariant-slots g l = Unsaved l.number l.slots.items l.machine.state.bus
+invariant-slots g l = Unsaved l.number l.slots.items (g.T.Target.model l.machine).state.bus
