@@ -21,8 +21,11 @@ pub struct Case {
     pub input: String,
     /// After how many bytes standard input fails.
     pub readable: usize,
-    /// How many bytes standard output takes.
+    /// How many bytes standard output takes, and how many of them in a call.
     pub room: usize,
+    pub piece: usize,
+    /// Whether standard output fails after these, and doesn't take none.
+    pub fails: bool,
     /// The status, once a line has it.
     status: Option<u8>,
     /// Whether both machines are to stop as the command does.
@@ -42,6 +45,8 @@ impl Case {
             input: String::new(alloc),
             readable: usize::MAX,
             room: usize::MAX,
+            piece: usize::MAX,
+            fails: true,
             status: None,
             stays: false,
         }
@@ -117,6 +122,11 @@ impl Case {
             "byte" => *self.first.get_mut(number)? = byte_at(numbers, 1)?,
             "length" => self.length = number,
             "room" => self.room = number,
+            "piece" => self.piece = number,
+            "takes" => {
+                self.room = number;
+                self.fails = false;
+            }
             "reads" => self.readable = number,
             "ends" => self.status = byte_at(numbers, 0),
             _ => return None,

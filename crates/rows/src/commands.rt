@@ -55,6 +55,7 @@ fn run(rt: &HostRuntime, case: &Case, words: &[String], image: &[u8]) -> Option<
     fs::write(rt, IMAGE_PATH, image).ok()?;
     fs::write(rt, BOARD_PATH, case.board()).ok()?;
     let mut out = Output::new(rt.alloc(), case.room);
+    out.limit_calls(case.piece, case.fails);
     let mut err = Output::whole(rt.alloc());
     let input = Input {
         text: case.input.as_bytes(),

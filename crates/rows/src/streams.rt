@@ -33,11 +33,13 @@ impl Read for Input<'_> {
     }
 }
 
-/// A writer that takes `left` bytes, and then fails.
+/// A writer that takes `left` bytes, at most `piece` in a call, and then fails or takes none.
 #[derive(Drop)]
 pub struct Output {
     pub text: Vec<u8>,
     left: usize,
+    piece: usize,
+    fails: bool,
 }
 
 impl Output {
@@ -45,7 +47,15 @@ impl Output {
         Output {
             text: Vec::new(alloc),
             left,
+            piece: usize::MAX,
+            fails: true,
         }
+    }
+
+    /// Lets a call take at most `piece` bytes, and says whether those after the last byte fail.
+    pub fn limit_calls(&mut self, piece: usize, fails: bool) {
+        self.piece = piece;
+        self.fails = fails;
     }
 
     /// A writer that takes all.
@@ -56,8 +66,8 @@ impl Output {
 
 impl Write for Output {
     fn write(&mut self, buf: &[u8]) -> io::Result<usize> {
-        let taken = buf.len().min(self.left);
-        if taken == 0 {
+        let taken = buf.len().min(self.left).min(self.piece);
+        if taken == 0 && self.fails {
             return Err(io::Error::from(io::ErrorKind::BrokenPipe));
         }
         self.text.extend_from_slice(&buf[..taken])?;
