@@ -1,17 +1,19 @@
 #!/usr/bin/env python3
-"""Proves and builds the program marm, as ./marm --prove does: each crate that it is built on, and then the program.
+"""Proves and builds the program marm, as ./marm --prove does: `rt ci` does it, in a room.
 
-    prove.py FOLDER     FOLDER is for the work: the lock, a room for each crate that is being proved, and logs
+    prove.py FOLDER     FOLDER is for the work
 
-Several crates are proved side by side, each as soon as those that it uses are done. `rt` locks a crate and all crates
-below it, so each is proved in a room of its own: a folder with hard links to the crate, and to what is proved of those
-below it. What a room has goes to crates/NAME/out once its crate is proved, and also where it was stopped: a run that
-was killed leaves its rooms to the next one. MARM_JOBS is the most crates that are proved side by side.
+The room is a copy of the crates that marm is built on, without their mutations. So the program counts as proved where CI
+would pass these crates, an edit changes nothing that is being proved, and no other command has to wait. `rt ci` proves
+crates side by side, each as soon as those that it uses are done, and keeps each proof on this computer: a later run, of
+CI too, takes what this one has proved, also where it was stopped or killed. MARM_JOBS is the most crates that are proved
+side by side.
 """
 
 import fcntl
 import hashlib
 import os
+import random
 import re
 import shutil
 import signal
@@ -22,85 +24,62 @@ import time
 
 TOP = os.path.dirname(os.path.realpath(__file__))
 PROGRAM = "marm"
-# What the program is run with, once it is built.
-RUN = ["--", "run", "--board", "data/small.toml", "--steps", "0", "data/first.elf"]
-# What a crate has to have where those above it are proved.
-PARTS = ["src", "specs", "proofs", "out/rlib"]
 NOTHING = subprocess.DEVNULL
-
-
 # What takes back the line that `show` writes on a terminal.
 BACK = "\r\033[K" if sys.stderr.isatty() else ""
+# What `rt ci` says of a crate once it is done, or can't be.
+PROVED = re.compile(r"rt: (\w+) (?:proved|is kept: .*)")
+FAILED = re.compile(r"rt: (\w+)(?:: its tests are)? NOT PROVED(?:: .*)?")
+WAITS = re.compile(r"rt: \w+(?:: its tests)?: another run on this machine is proving the same; waiting for it")
+# Runs `rt ci` so that it keeps its proofs in a folder that is named.
+KEEPING = """
+import sys
+names = {"__name__": "rt", "__file__": sys.argv[1]}
+with open(sys.argv[1], encoding="utf-8") as file:
+    exec(compile(file.read(), sys.argv[1], "exec"), names)
+names["STORE"] = sys.argv[2]
+sys.exit(names["main"](["ci"]))
+"""
 
 
 def say(text):
     print(f"{BACK}marm: {text}", file=sys.stderr, flush=True)
 
 
-# ---- the crates ------------------------------------------------------------------------------------------------------
+# ---- sources ---------------------------------------------------------------------------------------------------------
 
 
-def read_uses():
-    """Returns the crates that marm is built on, lowest first, and marm: each with the crates that it uses."""
-    listed, uses = {}, {}
+def read_rows():
+    """Returns the lines of crates.txt of marm and of all crates that it is built on, by their names."""
+    rows, found = {}, {}
     with open(f"{TOP}/crates.txt", encoding="utf-8") as file:
         for line in file:
-            name, _, words = line.partition("#")[0].partition(":")
-            if name.split():
-                listed[name.split()[0]] = words.split()
+            words = re.split(r"[:\s]+", line.partition("#")[0].strip())
+            rows[words[0]] = (line, words[1:])
 
     def visit(name):
-        below = [it for it in listed[name] if it in listed]
-        for it in below:
-            if it not in uses:
+        if name in rows and name not in found:
+            found[name] = rows[name][0]
+            for it in rows[name][1]:
                 visit(it)
-        uses[name] = below
 
     visit(PROGRAM)
-    return uses
-
-
-def all_below(uses, name):
-    """Returns all crates that a crate is built on."""
-    found = set(uses[name])
-    for it in uses[name]:
-        found |= all_below(uses, it)
     return found
 
 
-def seconds_of(name):
-    """Returns about how many seconds a crate takes: a second for five lines of src/, and ten more."""
-    lines = 0
-    for folder, _, files in os.walk(f"{TOP}/crates/{name}/src"):
-        for file in files:
-            with open(f"{folder}/{file}", "rb") as it:
-                lines += it.read().count(b"\n")
-    return 10 + lines / 5
+def make_room(room, rows):
+    """Copies the crates of these lines, without what was built of them, and without their mutations."""
+    # (`rt ci` runs at the top of a repository)
+    os.mkdir(f"{room}/.git")
+    shutil.copy2(f"{TOP}/HANDLES", room)
+    with open(f"{room}/crates.txt", "w", encoding="utf-8") as file:
+        file.writelines(rows.values())
+    for name in rows:
+        shutil.copytree(f"{TOP}/crates/{name}", f"{room}/crates/{name}", symlinks=True, ignore=left_out)
 
 
-def chains_of(uses):
-    """Returns for each crate about how many seconds it takes from its start to the end of marm's: its longest chain."""
-    above = dict.fromkeys(uses, 0)
-    chains = {}
-    for name in reversed(uses):
-        chains[name] = seconds_of(name) + above[name]
-        for it in uses[name]:
-            above[it] = max(above[it], chains[name])
-    return chains
-
-
-def most_lanes():
-    """Returns how many crates are proved side by side: one for each processor and each 3 GB of free memory."""
-    memory = 1
-    with open("/proc/meminfo", encoding="utf-8") as file:
-        for kilobytes in re.findall(r"MemAvailable: *(\d+)", file.read()):
-            memory = int(kilobytes) // 3_000_000
-    said = os.environ.get("MARM_JOBS", "")
-    most = int(said) if said.isdigit() else len(os.sched_getaffinity(0))
-    return max(1, min(most, memory))
-
-
-# ---- sums ------------------------------------------------------------------------------------------------------------
+def left_out(folder, names):
+    return {"out", "must-fail"}.intersection(names) if os.path.dirname(folder) == f"{TOP}/crates" else set()
 
 
 def sources_of(folder):
@@ -114,190 +93,93 @@ def sum_of(path):
         return hashlib.sha256(file.read()).hexdigest()
 
 
-# ---- rooms -----------------------------------------------------------------------------------------------------------
-
-
-def link(source, target):
-    """Links a file, or copies it where the file system has no links."""
-    try:
-        os.link(source, target)
-    except OSError:
-        shutil.copy2(source, target)
-
-
-def link_all(source, target):
-    if os.path.isdir(source):
-        shutil.copytree(source, target, copy_function=link)
-
-
-def make_room(room, name, below):
-    """Makes the room of a crate. Its file `made` says that it's whole."""
-    os.makedirs(f"{room}/crates")
-    shutil.copy2(f"{TOP}/HANDLES", room)
-    with open(f"{TOP}/crates.txt", encoding="utf-8") as file:
-        rows = [line for line in file if re.split(r"[:\s]", line)[0] in {name, *below}]
-    with open(f"{room}/crates.txt", "w", encoding="utf-8") as file:
-        file.writelines(rows)
-    for it in below:
-        for part in PARTS:
-            link_all(f"{TOP}/crates/{it}/{part}", f"{room}/crates/{it}/{part}")
-    link_all(f"{TOP}/crates/{name}", f"{room}/crates/{name}")
-    with open(f"{room}/made", "w", encoding="utf-8"):
-        pass
-
-
-def lock_crate(name):
-    """Waits until no `rt` works in a crate's folder, and returns what keeps others out until it is closed."""
-    held = os.open(f"{TOP}/crates/{name}", os.O_RDONLY)
-    try:
-        fcntl.flock(held, fcntl.LOCK_EX | fcntl.LOCK_NB)
-    except BlockingIOError:
-        say(f"waiting for another rt to end, in crates/{name}")
-        fcntl.flock(held, fcntl.LOCK_EX)
-    return held
-
-
-def remove(folder, name):
-    """Removes a room in the background: some file systems take ten seconds for it."""
-    removed = tempfile.mkdtemp(dir=f"{folder}/removed")
-    os.rename(f"{folder}/rooms/{name}", f"{removed}/{name}")
-    remove_all(removed)
-
-
-def remove_all(path):
-    subprocess.Popen(["rm", "-rf", path], start_new_session=True, stdin=NOTHING, stdout=NOTHING, stderr=NOTHING)
-
-
-def clear_room(folder, name):
-    """Moves what was proved in a room to its crate, and removes the room."""
-    room, out = f"{folder}/rooms/{name}", f"{TOP}/crates/{name}/out"
-    proved = f"{room}/crates/{name}/out"
-    if os.path.exists(f"{room}/made") and os.path.isdir(proved):
-        held = lock_crate(name)
-        if os.path.isdir(out):
-            os.rename(out, f"{room}/before")
-        os.rename(proved, out)
-        os.close(held)
-    remove(folder, name)
-
-
 # ---- the work --------------------------------------------------------------------------------------------------------
 
 
-class Work:
-    """What is done and what is under way."""
+def words_of(folder):
+    """Returns the words that run `rt ci`. It keeps its proofs beside the kit: where only others can write there, in the
+    folder for the work."""
+    rt = os.path.realpath(shutil.which("rt"))
+    if not os.access(os.path.dirname(os.path.dirname(os.path.dirname(rt))), os.W_OK):
+        with open(rt, encoding="utf-8", errors="replace") as file:
+            if "\nSTORE = " in file.read():
+                return [sys.executable, "-B", "-c", KEEPING, rt, f"{folder}/kept"]
+    return ["rt", "ci"]
 
-    def __init__(self, folder, lock):
-        self.uses = read_uses()
-        self.chains = chains_of(self.uses)
-        self.lanes = most_lanes()
-        self.folder = folder
-        self.done = set()
-        self.running = {}                  # the process of each crate that is being proved
-        self.started = {}                  # and when it was started
+
+def start_in(group):
+    """Has a new process join a group, and use no more processors than MARM_JOBS: `rt ci` proves as many crates side by
+    side as it may use, or fewer where they need more memory than is free."""
+    os.setpgid(0, group)
+    most, may = os.environ.get("MARM_JOBS", ""), sorted(os.sched_getaffinity(0))
+    if most.isdigit() and 0 < int(most) < len(may):
+        os.sched_setaffinity(0, random.sample(may, int(most)))
+
+
+class Run:
+    """A run of `rt ci` in the room, and how far it is."""
+
+    def __init__(self, folder, room, names, lock):
+        self.room, self.names = room, names
+        self.log = open(f"{folder}/prove.log", "w+", encoding="utf-8", errors="replace")
+        self.said = []                     # since a crate was done
+        self.done, self.failed = set(), None
         self.began = time.time()
         self.shown = ""
-        self.sources = ""                  # the sha256 of those that the program is built on
         # It kills what was started, however this process ends. Until then nobody else gets the lock.
         ends, self.held = os.pipe()
-        words = ["sh", "-c", "read _; kill -9 0"]
-        how = {"stdin": ends, "stdout": NOTHING, "stderr": NOTHING}
-        self.guard = subprocess.Popen(words, **how, preexec_fn=os.setpgrp, pass_fds=[lock])
+        how = {"stdin": ends, "stdout": NOTHING, "stderr": NOTHING, "pass_fds": [lock]}
+        self.guard = subprocess.Popen(["sh", "-c", "read _; kill -9 0"], **how, preexec_fn=os.setpgrp)
         os.close(ends)
-
-    def start(self, name, is_first, jobs):
-        """Starts to prove a crate. Those that others wait for less give way."""
-        room = f"{self.folder}/rooms/{name}"
-        self.started[name] = time.time()
-        make_room(room, name, all_below(self.uses, name))
-        is_program = name == PROGRAM
-        self.sources = sources_of(room) if is_program else ""
-        words = ["rt", "run" if is_program else "lib", "--jobs", str(jobs), *RUN * is_program]
-        words = words if is_first else ["nice", "-n", "5", *words]
-        how = {"cwd": f"{room}/crates/{name}", "preexec_fn": lambda: os.setpgid(0, self.guard.pid)}
-        with open(f"{self.folder}/logs/{name}", "wb") as log:
-            how.update(stdin=NOTHING, stdout=log, stderr=log)
-            self.running[name] = subprocess.Popen(words, **how)
-
-    def chain_of(self, name):
-        """Returns about how many seconds of the longest chain from a crate on are left."""
-        started = self.started.get(name, time.time())
-        return self.chains[name] - (time.time() - started)
-
-    def start_ready(self):
-        """Starts the crates that can be proved now, those with the longest chain first. The one with the longest chain
-        of all that are left gets the processors that no other crate can use, and two at least, each other crate one."""
-        left = [it for it in self.uses if it not in self.done]
-        ready = [it for it in left if it not in self.running and self.done.issuperset(self.uses[it])]
-        ready.sort(key=lambda it: -self.chains[it])
-        spare = self.lanes - len(self.running) - len(ready) + 1
-        for name in ready[: self.lanes - len(self.running)]:
-            is_first = name == max(left, key=self.chain_of)
-            self.start(name, is_first, max(min(2, self.lanes), spare) if is_first else 1)
-
-    def end_done(self):
-        """Ends what is proved. Returns a crate that isn't, if there is one."""
-        for name, process in list(self.running.items()):
-            if process.poll() is not None:
-                del self.running[name]
-                well = process.returncode == 0 and (name != PROGRAM or self.stamp())
-                clear_room(self.folder, name)
-                if not well:
-                    return name
-                self.done.add(name)
-        return None
-
-    def stamp(self):
-        """Writes beside the program what it was built on. Returns whether that stayed as it was at the start: an editor
-        may write into a file of which the room has a link."""
-        room = f"{self.folder}/rooms/{PROGRAM}"
-        program = f"{room}/crates/{PROGRAM}/out/{PROGRAM}"
-        if sources_of(room) != self.sources:
-            with open(f"{self.folder}/logs/{PROGRAM}", "a", encoding="utf-8") as log:
-                log.write("a source was changed while the program was being built\n")
-            return False
-        kit = subprocess.run(["rt", "version"], stdin=NOTHING, capture_output=True, text=True, check=True).stdout
-        with open(f"{program}.new", "w", encoding="utf-8") as stamp:
-            stamp.write(f"sources {self.sources}\nprogram {sum_of(program)}\nproved by {kit.strip()}\n")
-        os.replace(f"{program}.new", f"{program}.stamp")
-        return True
+        with open(self.log.name, "ab") as log:
+            how = {"cwd": room, "preexec_fn": lambda: start_in(self.guard.pid)}
+            self.process = subprocess.Popen(words_of(folder), **how, stdin=NOTHING, stdout=log, stderr=log)
 
     def time(self):
         minutes, seconds = divmod(int(time.time() - self.began), 60)
         return f"{minutes} min {seconds:02} s"
 
+    def read(self):
+        """Reads the lines that `rt ci` has written since the last call."""
+        while not self.failed:
+            at, line = self.log.tell(), self.log.readline()
+            if not line.endswith("\n"):
+                self.log.seek(at)
+                return
+            self.said.append(line)
+            proved, failed = PROVED.fullmatch(line.rstrip()), FAILED.fullmatch(line.rstrip())
+            if proved:
+                self.done.add(proved[1])
+                self.said = []
+            elif failed:
+                self.failed = failed[1]
+            elif WAITS.fullmatch(line.rstrip()):
+                say(line.rstrip().partition(": ")[2])
+
     def show(self):
-        """Shows how far it is."""
-        done, now = f"{len(self.done)} of {len(self.uses)}", " ".join(sorted(self.running))
-        text = f"marm: {done} crates proved and built, now: {now}"
+        """Shows how far it is. `rt ci` makes the folder out of a crate once it begins with it."""
+        begun = [it for it in sorted(self.names) if os.path.isdir(f"{self.room}/crates/{it}/out")]
+        now = " ".join(it for it in begun if it not in self.done)
+        text = f"marm: {len(self.done)} of {len(self.names)} crates proved and built, now: {now}"
         if BACK:
             print(f"{BACK}{text} ({self.time()})", end="", file=sys.stderr, flush=True)
         elif text != self.shown:
             print(f"{text} ({self.time()})", file=sys.stderr, flush=True)
             self.shown = text
 
-    def prove(self):
-        """Proves and builds all crates. Returns one that can't be, if there is one."""
-        while len(self.done) < len(self.uses):
-            self.start_ready()
+    def is_well(self):
+        """Waits for the end, or for a crate that can't be proved. Returns whether all are."""
+        status = None
+        while status is None and not self.failed:
             self.show()
             time.sleep(0.3)
-            failed = self.end_done()
-            if failed:
-                return failed
-        return None
-
-    def clear_rooms(self):
-        """Keeps what was proved in rooms that were left, by this run or by one that was killed."""
-        for name in os.listdir(f"{self.folder}/rooms"):
-            clear_room(self.folder, name)
+            status = self.process.poll()
+            self.read()
+        return status == 0 and not self.failed
 
     def stop(self):
-        """Ends what is under way, and keeps what it has proved."""
         os.killpg(self.guard.pid, signal.SIGKILL)
-        for process in self.running.values():
-            process.wait()
-        self.clear_rooms()
+        self.process.wait()
         print(BACK, end="", file=sys.stderr, flush=True)
 
 
@@ -314,6 +196,57 @@ def lock_work(folder):
     return lock
 
 
+def lock_crate(name):
+    """Waits until no `rt` works in a crate's folder, and returns what keeps others out until it is closed."""
+    held = os.open(f"{TOP}/crates/{name}", os.O_RDONLY)
+    try:
+        fcntl.flock(held, fcntl.LOCK_EX | fcntl.LOCK_NB)
+    except BlockingIOError:
+        say(f"waiting for another rt to end, in crates/{name}")
+        fcntl.flock(held, fcntl.LOCK_EX)
+    return held
+
+
+def install(room, sources):
+    """Puts the program that was built in the room, with its stamp, in the place of another. Returns its path."""
+    inside = f"crates/{PROGRAM}/out/{PROGRAM}"
+    program = f"{TOP}/{inside}"
+    kit = subprocess.run(["rt", "version"], stdin=NOTHING, capture_output=True, text=True, check=True).stdout
+    held = lock_crate(PROGRAM)
+    os.makedirs(os.path.dirname(program), exist_ok=True)
+    shutil.copy2(f"{room}/{inside}", f"{program}.new")
+    with open(f"{program}.stamp.new", "w", encoding="utf-8") as stamp:
+        stamp.write(f"sources {sources}\nprogram {sum_of(f'{program}.new')}\nproved by {kit.strip()}\n")
+    os.replace(f"{program}.new", program)
+    os.replace(f"{program}.stamp.new", f"{program}.stamp")
+    os.close(held)
+    return program
+
+
+def prove(folder, lock):
+    """Proves and builds the program. Returns the status to end with."""
+    say("proving and building the program; from nothing that takes most of an hour on 4 cores")
+    room, rows = tempfile.mkdtemp(dir=f"{folder}/rooms"), read_rows()
+    make_room(room, rows)
+    sources = sources_of(room)
+    run = Run(folder, room, [*rows], lock)
+    try:
+        is_well = run.is_well()
+    finally:
+        run.stop()
+    if not is_well:
+        sys.stderr.write("".join(run.said))
+        say(f"the crate {run.failed} could not be proved" if run.failed else "the program could not be proved or built")
+    elif not sources == sources_of(room) == sources_of(TOP):
+        say("a source was changed while the program was being proved; the next --prove takes what was proved of the others")
+    else:
+        say(f"all {len(rows)} crates proved and built in {run.time()}")
+        program = install(room, sources)
+        print(f"{sum_of(program)}  {program}")
+        return 0
+    return 1
+
+
 def main(folder):
     for number in (signal.SIGHUP, signal.SIGINT, signal.SIGTERM):
         signal.signal(number, lambda it, _: sys.exit(128 + it))
@@ -321,37 +254,21 @@ def main(folder):
     if unwritable:
         say(f"the folder {unwritable} can't be written, so nothing can be proved here")
         return 1
-    work = Work(folder, lock_work(folder))
-    for it in ("rooms", "logs", "removed"):
-        os.makedirs(f"{folder}/{it}", exist_ok=True)
-    for it in os.listdir(f"{folder}/removed"):
-        remove_all(f"{folder}/removed/{it}")
-    work.clear_rooms()
-    say("proving and building the program; from nothing that takes some 20 minutes on 4 cores")
+    lock, rooms = lock_work(folder), f"{folder}/rooms"
+    # (what a run that was killed has left)
+    shutil.rmtree(rooms, ignore_errors=True)
+    os.makedirs(rooms, exist_ok=True)
     try:
-        failed = work.prove()
+        return prove(folder, lock)
     finally:
-        work.stop()
-    if failed:
-        with open(f"{folder}/logs/{failed}", encoding="utf-8", errors="replace") as log:
-            sys.stderr.write(log.read())
-        say(f"the crate {failed} could not be proved or built")
-        return 1
-    say(f"all {len(work.uses)} crates proved and built in {work.time()}")
-    program = f"{TOP}/crates/{PROGRAM}/out/{PROGRAM}"
-    print(f"{sum_of(program)}  {program}")
-    return 0
+        shutil.rmtree(rooms, ignore_errors=True)
 
 
 def first_unwritable(folder):
     """Returns a folder that the work needs and that can't be written, if there is one."""
-    above = folder
-    while not os.path.exists(above):
-        above = os.path.dirname(above)
-    for it in (above, *(f"{TOP}/crates/{name}" for name in read_uses())):
-        if not os.access(it, os.W_OK | os.X_OK):
-            return it
-    return None
+    while not os.path.exists(folder):
+        folder = os.path.dirname(folder)
+    return next((it for it in (folder, f"{TOP}/crates/{PROGRAM}") if not os.access(it, os.W_OK | os.X_OK)), None)
 
 
 if __name__ == "__main__":

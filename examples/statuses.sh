@@ -2,9 +2,10 @@
 # Runs the program itself at least once for each exit status, and compares the status and the first line that it
 # writes: of standard output for 0 and 4, and of standard error for 2, 3 and 5. Compares lines of the file of --state
 # too.
+# Usage: examples/statuses.sh [PROGRAM], the proved program where it isn't given
 set -euo pipefail
 top=$(cd "$(dirname "${BASH_SOURCE[0]}")/.." && pwd)
-marm=$("$top/marm" --proved)
+marm=${1:-$("$top/marm" --proved)}
 work=$(mktemp -d)
 trap 'rm -rf "$work"' EXIT
 failed=0
