@@ -25,7 +25,7 @@ pub use access::{
 pub use board::{Board, InterruptNumber, ScriptedEvent, Signal};
 pub use decode::{BoardDecodeTable, DecodeEachTime};
 pub use machine::{Fast, Machine, RunError, Slow};
-pub use mpu_table::{KeptDecisions, Table};
+pub use mpu_table::{KeptDecisions, LazyTable};
 pub use nvic_levels::{BitLevels, KeptPriorities};
 pub use output::{Buffered, Cut, In, IoError, LineRoom, Out, Over, Paged};
 pub use platform::access::{Decision, Kind, Rule};

@@ -41,7 +41,7 @@ use board::Board;
 use decode::{BoardDecodeTable, DecodeEachTime};
 use elf::Image;
 use mpu::MpuRegs;
-use mpu_table::{KeptDecisions, Table};
+use mpu_table::{KeptDecisions, LazyTable};
 use nvic_levels::{BitLevels, KeptPriorities};
 use output::{
     AllEvents, ConsoleBytes, ExceptionEvents, FaultySteps, IoError, LineRoom, NoEvents, Out,
@@ -84,11 +84,11 @@ pub struct Machine<D: Decider, C: KeptCode, L: Exceptions, U: SysTickState> {
 /// each exception, and counts each tick.
 pub type Slow = Machine<Search, DecodeEachTime, PlainExceptions, EagerSysTick>;
 
-/// The machine that finds the deciding region in a table and keeps decisions, keeps decoded instructions by
-/// their addresses, keeps the exceptions in sets of bits with three values that each step reads, and knows
-/// the next tick at which something is due. Its steps are those of `Slow`, by the same contracts.
+/// The machine that finds the deciding region in a table, made when a decision needs it, and keeps decisions; keeps
+/// decoded instructions by their addresses; keeps the exceptions in sets of bits with three values that each step
+/// reads; and knows the next tick at which something is due. Its steps are those of `Slow`, by the same contracts.
 pub type Fast = Machine<
-    KeptDecisions<Table>,
+    KeptDecisions<LazyTable>,
     BoardDecodeTable,
     KeptPriorities<BitLevels>,
     LazySysTick,

@@ -5,6 +5,7 @@
 mod boundaries;
 mod interval;
 mod kept_decisions;
+mod lazy_table;
 mod places;
 mod search;
 mod sweep;
@@ -12,5 +13,6 @@ mod table;
 
 pub use interval::Interval;
 pub use kept_decisions::KeptDecisions;
+pub use lazy_table::LazyTable;
 pub use mpu::{Decider, Decision, Kind, MpuRegs, Rule};
 pub use table::Table;

@@ -10,8 +10,8 @@ use arrayvec::ArrayVec;
 use debugger::{SessionError, Slots, session};
 use machine::{
     BitLevels, BoardDecodeTable, Buffered, Decider, DecodeEachTime, EagerSysTick, Exceptions, In,
-    KeptCode, KeptDecisions, KeptPriorities, LazySysTick, Machine, Over, Paged, PlainExceptions,
-    SMALL_BOARD, Search, Slow, SysTickState, Table,
+    KeptCode, KeptDecisions, KeptPriorities, LazySysTick, LazyTable, Machine, Over, Paged,
+    PlainExceptions, SMALL_BOARD, Search, Slow, SysTickState,
 };
 use std::alloc::Global;
 use std::io;
@@ -253,7 +253,7 @@ fn writers_of_sessions_are_cut_at_each_byte(rt: HostRuntime) -> Result<(), Fail>
             );
             assert!(rt; slow == Some(true), "Slow, after {left}");
             let fast = fails_to_write::<
-                KeptDecisions<Table>,
+                KeptDecisions<LazyTable>,
                 BoardDecodeTable,
                 KeptPriorities<BitLevels>,
                 LazySysTick,
@@ -336,7 +336,7 @@ fn writers_of_runs_in_sessions_are_cut_at_each_byte(rt: HostRuntime) -> Result<(
             );
             assert!(rt; slow == Some(true), "Slow, after {left}");
             let fast = fails_in_run::<
-                KeptDecisions<Table>,
+                KeptDecisions<LazyTable>,
                 BoardDecodeTable,
                 KeptPriorities<BitLevels>,
                 LazySysTick,
@@ -403,7 +403,7 @@ fn writers_of_conditional_runs_are_cut_at_each_byte(rt: HostRuntime) -> Result<(
             );
             assert!(rt; slow == Some(true), "Slow, after {left}");
             let fast = fails_at_watchpoint::<
-                KeptDecisions<Table>,
+                KeptDecisions<LazyTable>,
                 BoardDecodeTable,
                 KeptPriorities<BitLevels>,
                 LazySysTick,

@@ -6,8 +6,8 @@ use super::cut::{Cut, Text};
 use super::machines::pulsed_machine;
 use machine::{
     BitLevels, BoardDecodeTable, Decider, DecodeEachTime, EagerSysTick, Exceptions, KeptCode,
-    KeptDecisions, KeptPriorities, LazySysTick, Machine, Over, PlainExceptions, RunError, Search,
-    Stop, SysTickState, Table, TaskEnd, TraceSelection,
+    KeptDecisions, KeptPriorities, LazySysTick, LazyTable, Machine, Over, PlainExceptions,
+    RunError, Search, Stop, SysTickState, TaskEnd, TraceSelection,
 };
 use std::alloc::Global;
 use std::marker::Brand;
@@ -336,7 +336,7 @@ fn runs_are_cut_at_each_byte(rt: HostRuntime) {
         let slow = run.is_cut::<Search, DecodeEachTime, PlainExceptions, EagerSysTick>(alloc);
         assert!(rt; slow == Some(true), "Slow, {}", run.name);
         let fast = run.is_cut::<
-            KeptDecisions<Table>,
+            KeptDecisions<LazyTable>,
             BoardDecodeTable,
             KeptPriorities<BitLevels>,
             LazySysTick,

@@ -10,8 +10,8 @@ use command_line::{ArgsError, Subcommand, subcommand_of};
 use elf::{Image, load};
 use machine::{
     BitLevels, Board, BoardDecodeTable, Decider, DecodeEachTime, EagerSysTick, Exceptions,
-    KeptCode, KeptDecisions, KeptPriorities, LazySysTick, Machine, PlainExceptions, RegionCount,
-    ScriptedEvent, Search, Signal, StartError, SysTickState, Table,
+    KeptCode, KeptDecisions, KeptPriorities, LazySysTick, LazyTable, Machine, PlainExceptions,
+    RegionCount, ScriptedEvent, Search, Signal, StartError, SysTickState,
 };
 use std::alloc::{AllocError, Global};
 use std::env::FillError;
@@ -161,7 +161,7 @@ fn growths_of_a_slow_machine(rt: HostRuntime) -> Result<(), Fail> {
 
 /// How a machine of the types of `Fast` starts.
 fn start_fast(alloc: Global, image: &Image<'_>, board: &Board) -> Answer {
-    start::<KeptDecisions<Table>, BoardDecodeTable, KeptPriorities<BitLevels>, LazySysTick>(
+    start::<KeptDecisions<LazyTable>, BoardDecodeTable, KeptPriorities<BitLevels>, LazySysTick>(
         alloc, image, board,
     )
 }
@@ -201,7 +201,7 @@ fn growths_come_after_the_segments(rt: HostRuntime) -> Result<(), Fail> {
         &board,
     );
     let fast = is_outside::<
-        KeptDecisions<Table>,
+        KeptDecisions<LazyTable>,
         BoardDecodeTable,
         KeptPriorities<BitLevels>,
         LazySysTick,

@@ -1,0 +1,79 @@
+//! The table of the registers, made when a decision first needs it.
+
+ghost use Rattle.std.specs.Prelude.{◌≡◌, true};
+ghost use Rattle.mpu_table.specs.Tables.{DecidesFor};
+ghost use Rattle.platform.specs.Regions.{Mpu};
+
+use crate::table::Table;
+use mpu::{Decider, Decision, Kind, MpuRegs, Search, Span, before_regions};
+
+/// The registers, and from the first decision of a region on their table. Loading registers copies them and makes no
+/// table, so that a kernel which sets eight regions up at a switch pays for one, and not for one at each of its writes.
+#[derive(Drop)]
+pub struct LazyTable {
+    registers: MpuRegs,
+    /// The table of these registers, where it was made, and otherwise that of earlier ones.
+    table: Table,
+    is_made: bool,
+}
+
+impl LazyTable {
+    /// Makes the table, if it wasn't made since the registers were loaded, and the regions decide such an access.
+    fn make_table_for(&mut self, address: u32, kind: Kind, below_zero: bool)
+        ensures { (m : Mpu) → ⟦<LazyTable as Decider>⟧.decides_for self.old m
+            → ⟦<LazyTable as Decider>⟧.decides_for self.new m }
+    {
+        if self.is_made {
+            return;
+        }
+        if before_regions(self.registers.control(), address, kind, below_zero).is_none() {
+            self.table.reload(&self.registers);
+            self.is_made = true;
+        }
+    }
+}
+
+impl Decider for LazyTable {
+    ghost decides_for = { λ t m. (t.registers ≡ m) × (t.is_made ≡ true → DecidesFor t.table m) };
+
+    fn fresh(registers: &MpuRegs) -> Self {
+        LazyTable {
+            registers: *registers,
+            table: Table::fresh(registers),
+            is_made: true,
+        }
+    }
+
+    fn reload(&mut self, registers: &MpuRegs) {
+        self.registers = *registers;
+        self.is_made = false;
+    }
+
+    fn decide(&self, address: u32, kind: Kind, privileged: bool, below_zero: bool) -> Decision {
+        if self.is_made {
+            self.table.decide(address, kind, privileged, below_zero)
+        } else {
+            Search::fresh(&self.registers).decide(address, kind, privileged, below_zero)
+        }
+    }
+
+    /// Makes the table first, where the decision is a region's.
+    fn decide_and_keep(
+        &mut self,
+        address: u32,
+        kind: Kind,
+        privileged: bool,
+        below_zero: bool,
+    ) -> Decision {
+        self.make_table_for(address, kind, below_zero);
+        self.decide(address, kind, privileged, below_zero)
+    }
+
+    fn span(&self, address: u32) -> Span {
+        if self.is_made {
+            self.table.span(address)
+        } else {
+            Search::fresh(&self.registers).span(address)
+        }
+    }
+}
