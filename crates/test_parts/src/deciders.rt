@@ -9,7 +9,7 @@ use decode::DecodeEachTime;
 use devices::Devices;
 use instruction_set::size::Size;
 use mpu::{Decider, Decision, MpuRegs, Search};
-use mpu_table::{KeptDecisions, Table};
+use mpu_table::{KeptDecisions, LazyTable, Table};
 use platform::access::{Access, Kind, Request};
 use std::alloc::Global;
 use std::io;
@@ -71,7 +71,7 @@ fn edges(first: u32, last: u32) -> [u32; 6] {
 
 /// Returns whether kept decisions and the search decide each kind of access to an address alike,
 /// below priority 0 too.
-fn keep_at(kept: &mut KeptDecisions<Table>, search: &Search, address: u32) -> bool {
+fn keep_at(kept: &mut KeptDecisions<LazyTable>, search: &Search, address: u32) -> bool {
     let mut agrees = true;
     'kinds: for kind in ALL_KINDS.iter() {
         'levels: for bits in 0u32..4 {
@@ -87,7 +87,7 @@ fn keep_at(kept: &mut KeptDecisions<Table>, search: &Search, address: u32) -> bo
 }
 
 /// Returns whether they do about both ends of each interval.
-fn kept_agree(registers: &MpuRegs, table: &Table, kept: &mut KeptDecisions<Table>) -> bool {
+fn kept_agree(registers: &MpuRegs, table: &Table, kept: &mut KeptDecisions<LazyTable>) -> bool {
     let search = Search::fresh(registers);
     let mut agrees = true;
     'intervals: for interval in table.intervals().iter() {
@@ -103,7 +103,7 @@ fn kept_agree(registers: &MpuRegs, table: &Table, kept: &mut KeptDecisions<Table
 fn agreed(alloc: Global, row: &str) -> Option<String> {
     let mut registers = registers_of(part(row, 0))?;
     let mut table = Table::fresh(&registers);
-    let mut kept = KeptDecisions::<Table>::fresh(&registers);
+    let mut kept = KeptDecisions::<LazyTable>::fresh(&registers);
     if !(agree(&registers, &table) && kept_agree(&registers, &table, &mut kept)) {
         return "other decisions before all writes".to_string(alloc).ok();
     }
@@ -175,7 +175,7 @@ fn unfollowed<'a, D: Decider>(alloc: Global, row: &'a str) -> Option<&'a str> {
 fn followed(alloc: Global, row: &str) -> Option<String> {
     let search = unfollowed::<Search>(alloc, row)?;
     let table = unfollowed::<Table>(alloc, row)?;
-    let kept = unfollowed::<KeptDecisions<Table>>(alloc, row)?;
+    let kept = unfollowed::<KeptDecisions<LazyTable>>(alloc, row)?;
     match (search, table, kept) {
         ("", "", "") => "each store is followed".to_string(alloc).ok(),
         (_, _, _) => {
