@@ -84,7 +84,7 @@ pub struct Machine<D: Decider, C: KeptCode, L: Exceptions, U: SysTickState> {
 /// each exception, and counts each tick.
 pub type Slow = Machine<Search, DecodeEachTime, PlainExceptions, EagerSysTick>;
 
-/// The machine that finds the deciding region in a table, made when a decision needs it, and keeps decisions; keeps
+/// The machine that finds the deciding region in a table, made when enough decisions need it, and keeps decisions; keeps
 /// decoded instructions by their addresses; keeps the exceptions in sets of bits with three values that each step
 /// reads; and knows the next tick at which something is due. Its steps are those of `Slow`, by the same contracts.
 pub type Fast = Machine<

@@ -1,4 +1,4 @@
-//! The table of the registers, made when a decision first needs it.
+//! The table of the registers, made when enough decisions need it.
 
 ghost use Rattle.std.specs.Prelude.{◌≡◌, true};
 ghost use Rattle.mpu_table.specs.Tables.{DecidesFor};
@@ -7,26 +7,37 @@ ghost use Rattle.platform.specs.Regions.{Mpu};
 use crate::table::Table;
 use mpu::{Decider, Decision, Kind, MpuRegs, Search, Span, before_regions};
 
-/// The registers, and from the first decision of a region on their table. Loading registers copies them and makes no
-/// table, so that a kernel which sets eight regions up at a switch pays for one, and not for one at each of its writes.
+/// How many decisions of regions are made by a search before the table is made: it takes as long as some of them.
+const SEARCHES: u8 = 8;
+
+/// The registers, and their table from the ninth decision of a region on. Loading registers copies them and makes no
+/// table, so that a kernel which sets eight regions up at a switch pays for one at most, and not for one at each of its
+/// writes.
 #[derive(Drop)]
 pub struct LazyTable {
     registers: MpuRegs,
     /// The table of these registers, where it was made, and otherwise that of earlier ones.
     table: Table,
     is_made: bool,
+    /// How many decisions were made by a search since the registers were loaded.
+    searches: u8,
 }
 
 impl LazyTable {
-    /// Makes the table, if it wasn't made since the registers were loaded, and the regions decide such an access.
+    /// Makes the table, if it wasn't made since the registers were loaded, the regions decide such an access, and
+    /// enough decisions were made by a search.
     fn make_table_for(&mut self, address: u32, kind: Kind, below_zero: bool)
         ensures { (m : Mpu) → ⟦<LazyTable as Decider>⟧.decides_for self.old m
             → ⟦<LazyTable as Decider>⟧.decides_for self.new m }
     {
-        if self.is_made {
+        if self.is_made
+            || before_regions(self.registers.control(), address, kind, below_zero).is_some()
+        {
             return;
         }
-        if before_regions(self.registers.control(), address, kind, below_zero).is_none() {
+        if self.searches < SEARCHES {
+            self.searches += 1;
+        } else {
             self.table.reload(&self.registers);
             self.is_made = true;
         }
@@ -41,12 +52,14 @@ impl Decider for LazyTable {
             registers: *registers,
             table: Table::fresh(registers),
             is_made: true,
+            searches: 0,
         }
     }
 
     fn reload(&mut self, registers: &MpuRegs) {
         self.registers = *registers;
         self.is_made = false;
+        self.searches = 0;
     }
 
     fn decide(&self, address: u32, kind: Kind, privileged: bool, below_zero: bool) -> Decision {
@@ -57,7 +70,6 @@ impl Decider for LazyTable {
         }
     }
 
-    /// Makes the table first, where the decision is a region's.
     fn decide_and_keep(
         &mut self,
         address: u32,
