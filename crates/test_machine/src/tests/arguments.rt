@@ -65,23 +65,47 @@ fn words_are_taken_or_refused(rt: HostRuntime) -> Result<(), Fail> {
     check(WORDS, &mut Lines { alloc: rt.alloc() })
 }
 
-/// Arguments of which one isn't a text.
+/// Arguments after `marm` and `run` of which one isn't a text.
 #[derive(Clone, Copy)]
-struct Given;
+enum Given {
+    /// The last byte of an argument is in no text.
+    LastByte,
+    /// The first byte of the second argument of two is in none.
+    FirstByte,
+}
 
-/// Returns an argument; the first one is the program's name.
-fn word_at(place: usize) -> Option<&'static [u8]> {
-    match place {
-        0 => Some(b"marm"),
-        1 => Some(b"run"),
-        2 => Some(b"--board=\xFF"),
-        _ => None,
+impl Given {
+    /// Returns an argument; the first one is the program's name.
+    fn word_at(self, place: usize) -> Option<&'static [u8]> {
+        match place {
+            0 => Some(b"marm"),
+            1 => Some(b"run"),
+            2 => self.second(),
+            3 => self.third(),
+            _ => None,
+        }
+    }
+
+    /// Returns the argument after `run`.
+    fn second(self) -> Option<&'static [u8]> {
+        match self {
+            Given::LastByte => Some(b"--board=\xFF"),
+            Given::FirstByte => Some(b"--board"),
+        }
+    }
+
+    /// Returns the argument after that.
+    fn third(self) -> Option<&'static [u8]> {
+        match self {
+            Given::LastByte => None,
+            Given::FirstByte => Some(b"\xFFa"),
+        }
     }
 }
 
 impl Env for Given {
     fn arg(&self, i: usize, buf: &mut [u8]) -> Result<usize, FillError> {
-        let Some(word) = word_at(i) else {
+        let Some(word) = self.word_at(i) else {
             return Err(FillError::NotPresent);
         };
         let length = word.len();
@@ -101,17 +125,22 @@ impl Env for Given {
     }
 }
 
-#[test]
-fn a_word_that_is_no_text_is_numbered(rt: HostRuntime) -> Result<(), Fail> {
+/// Returns whether arguments are refused with this text.
+fn are_refused(alloc: Global, given: Given, text: &[u8]) -> bool {
     let mut err = Cut::whole();
-    let status = match words(&(Given, rt.alloc())) {
+    let status = match words(&(given, alloc)) {
         Ok(_) => 0,
         Err(error) => refuse_args(&error, &mut err),
     };
+    status == 2 && err.text.as_slice() == text
+}
+
+#[test]
+fn a_word_that_is_no_text_is_numbered(rt: HostRuntime) -> Result<(), Fail> {
     let text =
         b"marm: usage\n  argument 2 isn't a text in UTF-8 (the program's name is argument 0)\n";
-    holds(
-        status == 2 && err.text.as_slice() == text.as_slice(),
-        "word 2",
-    )
+    holds(are_refused(rt.alloc(), Given::LastByte, text), "word 2")?;
+    let text =
+        b"marm: usage\n  argument 3 isn't a text in UTF-8 (the program's name is argument 0)\n";
+    holds(are_refused(rt.alloc(), Given::FirstByte, text), "word 3")
 }

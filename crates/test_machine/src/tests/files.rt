@@ -32,6 +32,11 @@ pub(super) static FIRST: [u8; 96] = *b"\
 pub(super) const SMALL: &str =
     "flash_base = 0\nflash_size = 4096\nram_size = 8192\npriority_bits = 4\nlines = 8\n";
 
+/// The same with a second RAM of 16 KiB.
+const TWO_RAMS: &str =
+    "flash_base = 0\nflash_size = 4096\nram_size = 8192\npriority_bits = 4\nlines = 8\n\
+ram = [{ base = 0x1000_0000, size = 16384 }]\n";
+
 /// The paths of the files of a case.
 const IMAGE_PATH: &str = "image.elf";
 
@@ -130,17 +135,21 @@ fn words_that_cannot_be_read_are_io(rt: HostRuntime) {
     let status = refuse_args(&io::Error::from(io::ErrorKind::OutOfMemory), &mut err);
     assert!(rt; status == 5);
     assert!(rt; err.text.as_slice() == b"marm: io\n  the arguments: out of memory\n".as_slice());
+    let mut err = Cut::whole();
+    let status = refuse_args(&io::Error::from(io::ErrorKind::BrokenPipe), &mut err);
+    assert!(rt; status == 5);
+    assert!(rt; err.text.as_slice() == b"marm: io\n  the arguments: broken pipe\n".as_slice());
 }
 
-/// Returns whether the reason of an error of the first image on the small board is this line.
-fn is_explained(alloc: Global, error: Error, line: &[u8]) -> bool {
+/// Returns whether the reason of an error of the first image on a board is this line.
+fn is_explained(alloc: Global, board: &str, error: Error, line: &[u8]) -> bool {
     let image = InputFile {
         path: IMAGE_PATH,
         bytes: &FIRST,
     };
     let board = InputFile {
         path: BOARD_PATH,
-        bytes: SMALL.as_bytes(),
+        bytes: board.as_bytes(),
     };
     let mut err = Cut::whole();
     write_reason(alloc, error, image, board, &mut err).is_ok() && err.text.as_slice() == line
@@ -151,6 +160,7 @@ fn files_without_memory_are_explained(rt: HostRuntime) {
     assert!(rt;
         is_explained(
             rt.alloc(),
+            SMALL,
             Error::Board(BoardError::OutOfMemory),
             b"  board.toml: no memory was found for the board\n"
         )
@@ -158,8 +168,18 @@ fn files_without_memory_are_explained(rt: HostRuntime) {
     assert!(rt;
         is_explained(
             rt.alloc(),
+            SMALL,
             Error::Start(StartError::NoMemory),
             b"  image.elf: no memory was found for the machine: flash and RAM take 12288 bytes, and events and decoded \
+instructions some more\n"
+        )
+    );
+    assert!(rt;
+        is_explained(
+            rt.alloc(),
+            TWO_RAMS,
+            Error::Start(StartError::NoMemory),
+            b"  image.elf: no memory was found for the machine: flash and RAM take 28672 bytes, and events and decoded \
 instructions some more\n"
         )
     );
