@@ -1,1 +1,6 @@
 mod Whole
+mod Shown
+mod Joining
+mod RowsMade
+mod PlacesMade
+mod SharesMade

@@ -1,2 +1,4 @@
 pub mod Edges
 pub mod Pages
+pub mod AccessTables
+pub mod Growing

@@ -2,6 +2,7 @@
 //! page in memory. Nothing here knows the page's parts.
 #![tactic(auto)]
 
+mod access_rows;
 pub mod access_table;
 pub mod cells;
 pub mod escape;
@@ -15,5 +16,6 @@ pub mod numbers;
 mod permissions;
 pub mod rows;
 pub mod settings;
+mod shares;
 pub mod sums;
 pub mod words;
