@@ -40,6 +40,19 @@ BOARDS = {
 }
 
 
+# what the programs of bench/kernels.py do, by the names of their figures
+TURNS = (
+    "eight regions set anew",
+    "SVC and its return",
+    "a load of a system register",
+    "BASEPRI read and written",
+    "a load of a device",
+    "a store to a device",
+    "a step of a list",
+    "a handler's step",
+    "SysTick each 1,000 ticks",
+)
+
 # the KiB of the loops of bench/sizes.py
 KIB = (1, 4, 16, 64, 256, 1000)
 
@@ -121,9 +134,18 @@ def sizes_table(results):
     return [results.origin(first), "", *table(["", *(f"{kib:,} KiB" for kib in KIB)], rows)]
 
 
+def kernels_table(results):
+    """Returns the table of what kernels do, and of a step of kernels by each command."""
+    run = results.run_of(f"cost {TURNS[0]}")
+    turns = [[name, run.get(f"cost {name}", "")] for name in TURNS]
+    steps = [[what[5:], value] for what, value in run.items() if what.startswith("cost a step of ") and ", " in what]
+    return [results.origin(f"cost {TURNS[0]}"), "", *table(["What", "Host instructions"], turns + steps)]
+
+
 TABLES = {
     "bench rates": lambda results: bench_table(results, RATES),
     "bench ways": lambda results: bench_table(results, WAYS),
     "host instructions": cost_table,
+    "kernels": kernels_table,
     "sizes": sizes_table,
 }
