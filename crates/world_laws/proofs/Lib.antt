@@ -1,2 +1,3 @@
 mod Unseen
 mod Written
+mod Reached

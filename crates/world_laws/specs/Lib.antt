@@ -1,1 +1,2 @@
 pub mod WorldLaw
+pub mod ReachedLaw

@@ -2,13 +2,17 @@
 //! function that does nothing but call the laws that it follows from.
 #![tactic(auto)]
 
-ghost use Rattle.std.specs.Prelude.{ℕ};
+ghost use Rattle.std.specs.Prelude.{ℕ, List};
 ghost use Rattle.access_map.specs.declared.world.World.{World};
-ghost use Rattle.platform.specs.Boards.{Numbers, blank};
+ghost use Rattle.platform.specs.Boards.{Described, Numbers, blank};
+ghost use Rattle.platform.specs.Images.{Segment};
 ghost use Rattle.reference.specs.State.{State};
 ghost use Rattle.task_laws.specs.declared.task.TaskEnd.{TaskEnd as End};
+ghost use Rattle.world_laws.specs.ReachedLaw.{BeginsIn, CountedLaw, HaveRamsOf, KeepsRams};
 ghost use Rattle.world_laws.specs.WorldLaw.{ApartLaw, HasRamsOf, UnseenLaw, WorldEndsLaw, WorldRunLaw, WritesLaw};
 
+use state_laws::{start_gives_the_invariant, step_keeps_the_invariant};
+use step_laws::board_stays;
 use task_laws::{runs_of_tasks_end_in_one_way, tasks_are_kept_apart};
 
 /// A run of unprivileged code in a world, of Instruction steps, changes no byte of RAM that the world may not write: a
@@ -23,6 +27,28 @@ pub fn worlds_write_what_they_may()
 pub fn boards_have_their_rams()
     ensures { (board : Numbers) → HasRamsOf board (blank board) }
 {}
+
+/// A step keeps the RAMs of a board, so each state of a run on a board has them.
+pub fn runs_keep_their_rams()
+    ensures step { (board : Numbers) (s : State) → KeepsRams board s }
+    ensures run { (board : Described) (image : List Segment) (first : State)
+        → BeginsIn board image first → HaveRamsOf board.numbers first }
+{
+    boards_have_their_rams();
+    board_stays();
+}
+
+/// Each state from which `marm tasks` counts the next step for a world has what the laws of worlds need of a state in
+/// that world: the RAMs of the board, the invariant, and unprivileged code that runs in the world, with an Instruction
+/// step next.
+pub fn counted_states_are_of_their_worlds()
+    ensures { (board : Described) (image : List Segment) (first : State) (steps n : ℕ) (w : World)
+        → BeginsIn board image first → CountedLaw board.numbers first steps n w }
+{
+    runs_keep_their_rams();
+    start_gives_the_invariant();
+    step_keeps_the_invariant();
+}
 
 /// Bytes of RAM that a world may write look the same to the code of a world that is apart from it, whatever they are.
 pub fn worlds_apart_see_no_writes()
