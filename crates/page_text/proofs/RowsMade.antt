@@ -25,7 +25,7 @@ use Rattle.page_text.specs.Growing.{AddsRows, AddsRowsOf}
 pub next_column : (n i : ℕ) (worlds : List WorldSteps) (w e : WorldSteps) (place : Place) (a : ℕ) → i < n
     → i < length worlds → w ≡ get_or worlds i e
     → set (rights_in n (take i worlds) place a) i (rights_at w.world place a)
-      ≡ rights_in n (take (suc i) worlds) place a
+    ≡ rights_in n (take (suc i) worlds) place a
 next_column zero i worlds w e place a below within is = absurd (omega (arith, below))
 next_column (suc n) i [] w e place a below within is = absurd (omega (arith, within))
 next_column (suc n) zero (v ∷ worlds) w e place a below within is =
