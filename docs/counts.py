@@ -242,7 +242,7 @@ COUNTS = {
     "other edges": lambda: row_count("instruction_rows", "case/edges"),
     "edge stops": lambda: row_count("instruction_rows", "stop/edges"),
     "register rows": lambda: line_count("instruction_rows", "registers/*"),
-    "whole rows": lambda: row_count("rows", "*/*"),
+    "whole rows": lambda: row_count("rows", "command/* machine/* pair/* session/*"),
     "device runs": lambda: row_count("rows", "machine/devices machine/device_lines"),
     "faults": lambda: row_count("rows", "machine/faults"),
     "file rows": lambda: row_count("rows", "command/files"),

@@ -83,7 +83,8 @@ fn compare_parts(alloc: Global, row: &str, text: &str) -> Option<Outcome> {
             _ => true,
         };
         if !holds {
-            return Outcome::differs(alloc, line, nearest(word, text)).ok();
+            let came = nearest(alloc, word, part, text)?;
+            return Outcome::differs(alloc, line, came.as_str()).ok();
         }
     }
     let mut last = String::new(alloc);
@@ -92,17 +93,35 @@ fn compare_parts(alloc: Global, row: &str, text: &str) -> Option<Outcome> {
     if last.len() == 1 || text.ends_with(last.as_str()) {
         return Some(Outcome::Holds);
     }
-    Outcome::differs(alloc, last.as_str().trim(), nearest("last", text)).ok()
+    let came = nearest(alloc, "last", "", text)?;
+    Outcome::differs(alloc, last.as_str().trim(), came.as_str()).ok()
 }
 
 /// Returns what is shown of a text in which a part isn't as it is wanted.
-fn nearest<'a>(word: &str, text: &'a str) -> &'a str {
-    match word {
+fn nearest(alloc: Global, word: &str, part: &str, text: &str) -> Option<String> {
+    let shown = match word {
         "first" => text.lines().next().unwrap_or("(no line)"),
         "last" => text.lines().last().unwrap_or("(no line)"),
         "not" => "(the text has it)",
-        _ => "(the text doesn't have it)",
+        _ => return nearest_part(alloc, part, text),
+    };
+    shown.to_string(alloc).ok()
+}
+
+/// Returns the place of a text that has the longest beginning of a part: that, and as many bytes of its line after it
+/// as the part has, or all of them.
+fn nearest_part(alloc: Global, part: &str, text: &str) -> Option<String> {
+    'lengths: for less in 1..part.len() {
+        let Some(beginning) = part.get(..part.len() - less) else {
+            continue;
+        };
+        if let Some((_, after)) = text.split_once(beginning) {
+            let line = after.lines().next().unwrap_or("");
+            let rest = line.get(..part.len()).unwrap_or(line);
+            return format!(in alloc; "{beginning}{rest}").ok();
+        }
     }
+    "(the text has nothing like it)".to_string(alloc).ok()
 }
 
 /// Compares bytes with those of a line.

@@ -1,5 +1,5 @@
-//! Runs tables of rows: what the command, whole machines and debug sessions are to write. docs/ROWS.md has the lines of a
-//! row.
+//! Runs tables of rows: what the command, whole machines and debug sessions are to write, and the words of a page.
+//! docs/ROWS.md has the lines of a row.
 #![tactic(auto)]
 
 mod boards;
@@ -8,6 +8,7 @@ mod commands;
 mod compared;
 mod elf_file;
 mod machines;
+mod page_words;
 mod pairs;
 mod seen;
 mod sessions;
@@ -26,15 +27,19 @@ struct AllKinds<'a> {
 }
 
 impl Kinds for AllKinds<'_> {
+    fn has_line_rows(&self, table: &str) -> bool {
+        matches!(kind_of(table), ("page_words", _))
+    }
+
     fn check(&mut self, table: &str, row: &str) -> io::Result<Outcome> {
         let alloc = self.rt.alloc();
-        let (kind, _) = kind_of(table);
-        let outcome = match kind {
-            "command" => commands::check(self.rt, row),
-            "machine" => machines::check(alloc, row),
-            "pair" => pairs::check(alloc, row),
-            "session" => sessions::check(alloc, row),
-            _ => None,
+        let outcome = match kind_of(table) {
+            ("command", _) => commands::check(self.rt, row),
+            ("machine", _) => machines::check(alloc, row),
+            ("page_words", name) => return page_words::outcome(alloc, name, row),
+            ("pair", _) => pairs::check(alloc, row),
+            ("session", _) => sessions::check(alloc, row),
+            (_, _) => None,
         };
         Ok(outcome.unwrap_or(Outcome::Unreadable))
     }

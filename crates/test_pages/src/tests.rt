@@ -1,7 +1,5 @@
 mod access_maps;
 mod command_lines;
-mod consoles;
-mod counters;
 mod gdb_replies;
 mod message_texts;
 mod packets;
@@ -9,8 +7,5 @@ mod page_lengths;
 mod page_worlds;
 mod pages;
 mod rankings;
-mod rows;
 mod runs;
-mod timelines;
-mod words;
 mod worlds;

@@ -1,4 +1,4 @@
-//! The tests of single crates, most of them below the machine: tables of rows in `data`, whose values come from the manual
+//! The tests of single crates beside and below the machine: tables of rows in `data`, whose values come from the manual
 //! (ARM DDI 0403) and from the formats' own texts.
 #![tactic(auto)]
 
@@ -15,16 +15,20 @@ mod device_accesses;
 mod device_tables;
 mod images;
 mod memory;
-mod page_words;
 mod priorities;
 mod region_registers;
 mod regions;
 mod settings;
 mod special_registers;
+mod survey_counts;
+mod survey_rows;
+mod survey_timeline;
+mod survey_words;
 mod system_registers;
 mod ticks;
 mod trace_lines;
 mod words;
+mod worlds;
 
 /// What reads the rows of all tables.
 #[derive(Drop)]
@@ -35,7 +39,8 @@ struct AllTables {
 impl Kinds for AllTables {
     fn has_line_rows(&self, table: &str) -> bool {
         match kind_of(table) {
-            ("accesses" | "board_contents" | "device_accesses" | "special_registers", _) => false,
+            ("accesses" | "board_contents" | "device_accesses", _) => false,
+            ("special_registers" | "worlds", _) => false,
             ("boards", "more_lines" | "events" | "texts") => false,
             ("deciders", "stores") | ("device_tables", "more_lines") => false,
             ("images", "listings") | ("memory", "accesses") => false,
@@ -56,14 +61,17 @@ impl Kinds for AllTables {
             ("device_tables", name) => device_tables::outcome(alloc, name, row),
             ("images", name) => images::outcome(alloc, name, row),
             ("memory", name) => memory::outcome(alloc, name, row),
-            ("page_words", name) => page_words::outcome(alloc, name, row),
             ("priorities", name) => priorities::outcome(alloc, name, row),
             ("region_registers", name) => region_registers::outcome(alloc, name, row),
             ("regions", name) => regions::outcome(alloc, name, row),
             ("special_registers", _) => special_registers::outcome(alloc, row),
+            ("survey_counts", name) => survey_counts::outcome_of(alloc, name, row),
+            ("survey_rows", name) => survey_rows::outcome(alloc, name, row),
+            ("survey_timeline", name) => survey_timeline::outcome(alloc, name, row),
             ("system_registers", name) => system_registers::outcome(alloc, name, row),
             ("ticks", name) => ticks::outcome(alloc, name, row),
             ("trace_lines", name) => trace_lines::outcome(alloc, name, row),
+            ("worlds", name) => worlds::outcome(alloc, name, row),
             (_, _) => Ok(Outcome::Unreadable),
         }
     }

@@ -1,6 +1,7 @@
 //! Priorities of exceptions, and which of them is taken (ARM DDI 0403, "Exception priorities and
 //! preemption").
 
+use crate::words::yes_if;
 use nvic::{Escalation, Exceptions, PlainExceptions};
 use std::alloc::Global;
 use std::io;
@@ -147,11 +148,6 @@ fn after_a_tick(alloc: Global, row: &str) -> Option<String> {
     }
     let (foreseen, waits) = (word_of(foreseen, alloc)?, yes_if(waits));
     format!(in alloc; "{candidate}, foreseen: {foreseen}, waits: {waits}").ok()
-}
-
-/// A word for whether it is so.
-fn yes_if(is_so: bool) -> &'static str {
-    if is_so { "yes" } else { "no" }
 }
 
 /// Whether an exception is enabled: at last, after a reset, and once it's disabled.

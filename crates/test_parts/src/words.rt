@@ -99,3 +99,8 @@ pub fn shown(alloc: Global, number: Option<u32>) -> Option<String> {
         None => "none".to_string(alloc).ok(),
     }
 }
+
+/// A word for whether it is so.
+pub fn yes_if(is_so: bool) -> &'static str {
+    if is_so { "yes" } else { "no" }
+}

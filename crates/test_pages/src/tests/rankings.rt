@@ -1,11 +1,11 @@
-//! The rows of rankings, and shares. Expected numbers are worked out by hand.
+//! The rows of rankings. Expected numbers are worked out by hand.
 
 use instruction_set::size::Size;
 use platform::access::{Access, DecidedAccess, Kind, Rule};
 use platform::board::SMALL_BOARD;
 use std::test::*;
 use survey::Survey;
-use symbol_steps::{MAX_ROWS, Ranking, Share, Totals};
+use symbol_steps::{MAX_ROWS, Ranking, Totals};
 use symbols::{Symbol, Symbols};
 
 /// A symbol: its address, its size and the place of its name.
@@ -202,30 +202,5 @@ fn a_ranking_has_twenty_rows(rt: HostRuntime) -> Result<(), Fail> {
     assert_eq!(rt; ranking.shown().sum(), 230);
     assert_eq!(rt; all.sum(), 231);
     assert_eq!(rt; all.less(ranking.shown()).privileged, 1);
-    Ok(())
-}
-
-/// A number, what it is a share of, and that share.
-const SHARES: [(u64, u64, &str); 12] = [
-    (0, 0, "0.0"),
-    (7, 0, "0.0"),
-    (0, 7, "0.0"),
-    (1, 3, "33.3"),
-    (2, 3, "66.6"),
-    (1, 1000, "0.1"),
-    (1, 1001, "0.0"),
-    (7, 7, "100.0"),
-    (8, 7, "100.0"),
-    (1 << 63, u64::MAX, "50.0"),
-    ((1 << 63) - 1, u64::MAX, "49.9"),
-    (u64::MAX, u64::MAX, "100.0"),
-];
-
-#[test]
-fn shares_are_rounded_down(rt: HostRuntime) -> Result<(), Fail> {
-    'shares: for (number, all, expected) in &SHARES {
-        let shown = Share::of(*number, *all).to_string(rt.alloc())?;
-        assert_eq!(rt; shown.as_str(), *expected, "{number} of {all}");
-    }
     Ok(())
 }

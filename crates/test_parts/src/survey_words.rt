@@ -1,4 +1,4 @@
-//! The words of the rows: events as lines of the trace have them, and what the core runs.
+//! The words of the rows of surveys: events as lines of the trace have them, and what the core runs.
 
 use instruction_set::size::Size;
 use mpu::MpuRegs;
@@ -47,27 +47,27 @@ const TOUCHES: [(&str, Touch); 4] = [
 ];
 
 /// A kind of access, by its letter.
-pub(super) fn kind(word: &str) -> Option<Kind> {
+pub fn kind(word: &str) -> Option<Kind> {
     meaning(&KINDS, word)
 }
 
 /// Whether code is privileged.
-pub(super) fn privileged(word: &str) -> Option<bool> {
+pub fn privileged(word: &str) -> Option<bool> {
     meaning(&PRIVILEGES, word)
 }
 
 /// What became of an access.
-pub(super) fn outcome(word: &str) -> Option<Option<Cause>> {
+pub fn outcome(word: &str) -> Option<Option<Cause>> {
     meaning(&OUTCOMES, word)
 }
 
 /// What decided an access.
-pub(super) fn rule(word: &str) -> Option<Rule> {
+pub fn rule(word: &str) -> Option<Rule> {
     meaning(&RULES, word)
 }
 
 /// What was done to memory.
-pub(super) fn touch(word: &str) -> Option<Touch> {
+pub fn touch(word: &str) -> Option<Touch> {
     meaning(&TOUCHES, word)
 }
 
@@ -99,7 +99,7 @@ fn event(text: &str) -> Option<EventKind> {
 }
 
 /// The moment of a step: `u` or `p` for code in Thread mode, `s` for a core that is asleep, or `h` for a handler.
-pub(super) fn start(mode: char, exception: u16, pc: u32) -> StepStart {
+pub fn start(mode: char, exception: u16, pc: u32) -> StepStart {
     StepStart {
         pc,
         exception: if mode == 'h' { exception } else { 0 },
@@ -110,7 +110,7 @@ pub(super) fn start(mode: char, exception: u16, pc: u32) -> StepStart {
 }
 
 /// Counts a step that begins at a moment, of events between commas.
-pub(super) fn take_step(survey: &mut Survey, start: &StepStart, events: &str) -> Option<()> {
+pub fn take_step(survey: &mut Survey, start: &StepStart, events: &str) -> Option<()> {
     survey.begin_step(start);
     'events: for text in events.split(',') {
         if !text.trim().is_empty() {
