@@ -3,11 +3,11 @@
 
     prove.py FOLDER     FOLDER is for the work
 
-The room is a copy of the crates that marm is built on, without their mutations. So the program counts as proved where CI
-would pass these crates, an edit changes nothing that is being proved, and no other command has to wait. `rt ci` proves
-crates side by side, each as soon as those that it uses are done, and keeps each proof on this computer: a later run, of
-CI too, takes what this one has proved, also where it was stopped or killed. MARM_JOBS is the most crates that are proved
-side by side.
+The room is a copy of the crates that marm is built on, without their mutations. So the program counts as proved where
+CI would pass these crates, an edit changes nothing that is being proved, and no other command has to wait. `rt ci`
+proves crates side by side, each as soon as those that it uses are done, and keeps each proof on this computer: a later
+run, of CI too, takes what this one has proved, also where it was stopped or killed. MARM_JOBS is the most crates that
+are proved side by side.
 """
 
 import fcntl
@@ -216,7 +216,7 @@ def install(room, sources):
     os.makedirs(os.path.dirname(program), exist_ok=True)
     shutil.copy2(f"{room}/{inside}", f"{program}.new")
     with open(f"{program}.stamp.new", "w", encoding="utf-8") as stamp:
-        stamp.write(f"sources {sources}\nprogram {sum_of(f'{program}.new')}\nproved by {kit.strip()}\n")
+        stamp.write(f"sources {sources}\nprogram {sum_of(f'{program}.new')}\nproved by --prove with {kit.strip()}\n")
     os.replace(f"{program}.new", program)
     os.replace(f"{program}.stamp.new", f"{program}.stamp")
     os.close(held)
@@ -238,7 +238,7 @@ def prove(folder, lock):
         sys.stderr.write("".join(run.said))
         say(f"the crate {run.failed} could not be proved" if run.failed else "the program could not be proved or built")
     elif not sources == sources_of(room) == sources_of(TOP):
-        say("a source was changed while the program was being proved; the next --prove takes what was proved of the others")
+        say("a source was changed while the program was being proved; the next --prove takes what is kept")
     else:
         say(f"all {len(rows)} crates proved and built in {run.time()}")
         program = install(room, sources)
