@@ -5,6 +5,8 @@ import subprocess
 import sys
 
 import boards
+import bounds
+import programs
 import results
 from loops import SIZES, elf, written
 
@@ -62,6 +64,15 @@ def works_with(stack, words, session):
     return answers[0] == answers[1]
 
 
+def works_within_bounds(board, image):
+    """Returns whether a session of gdb answers in the same way with no more than it is to need at most."""
+    words = [MARM, "gdb", "--board", board, "--steps", "1000", image]
+    with open(board, "rb") as on, open(image, "rb") as of:
+        limits = bounds.limits(of.read(), on.read(), True)
+    free, bound = (programs.answer_of(words, PACKETS, most) for most in ((), limits))
+    return free is not None and bound is not None and free.status == 0 and free.same(bound)
+
+
 def least_stack(words, session=b""):
     """Returns the least KiB of stack, a multiple of 4, with which a run works."""
     low, high = 1, 16384
@@ -84,6 +95,12 @@ deep = board("deep.toml", f"x = {boards.nested(80)}", f"y = {'[{a=' * 80}")
 image = written(FOLDER, "large.elf", elf(b"\0").ljust(MOST, b"\0"))
 full = written(FOLDER, "full.elf", elf(bytes(1 << 20)))
 large = written(FOLDER, "large.toml", (SIZES + "lines = 240\nregions = 16\n").encode())
+second = "[[ram]]\nbase = 0x6000_0000\nsize = 0x100_0000\n"
+largest = written(FOLDER, "largest.toml", (SIZES + "lines = 240\nregions = 16\n" + second).encode())
+
+for path in (large, largest):
+    if not works_within_bounds(path, full):
+        sys.exit(f"fuzz: a session of gdb on {os.path.basename(path)} needs more than fuzz/bounds.py says")
 
 start = memory_of(run(SMALL))
 bare = seconds_of(run(SMALL))
@@ -102,6 +119,7 @@ figures = {
     "need memory, small board, KiB": start,
     "need memory, large board, KiB": memory_of(run(large, full)),
     "need memory, gdb, KiB": memory_of(["gdb", "--board", large, "--steps", "1000", full], PACKETS),
+    "need memory, gdb, largest board, KiB": memory_of(["gdb", "--board", largest, "--steps", "1000", full], PACKETS),
     "need memory, byte of image": f"{(memory_of(run(SMALL, image)) - start) * 1024 / MOST:.1f}",
     "need memory, byte of plain board": f"{(memory_of(run(plain)) - start) * 1024 / os.path.getsize(plain):.0f}",
     "need memory, byte of hostile board": f"{(memory_of(run(hostile)) - start) * 1024 / os.path.getsize(hostile):.0f}",

@@ -1,5 +1,5 @@
 -- Checkpoints: they are right for their mark, as they are kept, and for every mark after they were forgotten.
-use Rattle.std.proofs.Common.{◌≡◌, ◌∙◌, ◌+◌, ◌-◌, ◌^◌, ◌≤◌, ◌<◌, ℕ, zero, suc, List, [], ◌∷◌, All, ap, arith, length}
+use Rattle.std.proofs.Common.{◌≡◌, ◌∙◌, ◌+◌, ◌-◌, ◌*◌, ◌^◌, ◌≤◌, ◌<◌, ℕ, zero, suc, List, [], ◌∷◌, All, ap, arith, length}
 use Rattle.std.proofs.Common.{min, refl, replicate, slice_index_or, slice_set, subst, sym, take}
 use Rattle.std.proofs.lemmas.List.{length-replicate, length-set}
 use Rattle.std.proofs.lemmas.List.Elements.{All-replicate, All-set}
@@ -20,14 +20,14 @@ abbrev pub first_checkpoint : State → Checkpoint
 first_checkpoint t = record { state = t; steps = 0; generation = 0 }
 
 pub first_right : (t : State) (slots : List Checkpoint) (n : ℕ) (cs : Checkpoints)
-    → slots ≡ replicate n (first_checkpoint t) → n ≡ 16 → cs ≡ record { slots = slots; generation = 0 }
-    → AreRight t t cs
-first_right t slots n cs is all made =
-    rw (made, is, all) (record {
-      rooms = length-replicate 16 (first_checkpoint t);
-      fits = All-replicate (λ c. AreOfOneMachine t c.state) 16 (first_checkpoint t) (same_refl t);
-      before = All-replicate (λ c. c.generation ≤ 0) 16 (first_checkpoint t) (omega arith);
-      right = All-replicate (λ c. IsRight t 0 c) 16 (first_checkpoint t) (λ e b. sym (after_none t));
+    → slots ≡ replicate n (first_checkpoint t) → cs ≡ record { slots = slots; generation = 0 }
+    → AreRight t t n cs
+first_right t slots n cs is made =
+    rw (made, is) (record {
+      rooms = length-replicate n (first_checkpoint t);
+      fits = All-replicate (λ c. AreOfOneMachine t c.state) n (first_checkpoint t) (same_refl t);
+      before = All-replicate (λ c. c.generation ≤ 0) n (first_checkpoint t) (omega arith);
+      right = All-replicate (λ c. IsRight t 0 c) n (first_checkpoint t) (λ e b. sym (after_none t));
     })
 
 -- ---- for another mark
@@ -38,10 +38,10 @@ none_right n old new c is before = λ same used.
     let less : c.generation < new = omega (arith, is, before, used) in
     absurd (omega (arith, less, same))
 
-pub cleared_right : (start m n : State) (slots : List Checkpoint) (old new : ℕ)
-    → AreRight start m (record { slots = slots; generation = old }) → old < 2 ^ 64
-    → new ≡ min (old + 1) (2 ^ 64 - 1) → AreRight start n (record { slots = slots; generation = new })
-cleared_right start m n slots old new h fits is =
+pub cleared_right : (start m n : State) (count : ℕ) (slots : List Checkpoint) (old new : ℕ)
+    → AreRight start m count (record { slots = slots; generation = old }) → old < 2 ^ 64
+    → new ≡ min (old + 1) (2 ^ 64 - 1) → AreRight start n count (record { slots = slots; generation = new })
+cleared_right start m n count slots old new h fits is =
     let more : old ≤ new = omega (arith, fits, is) in
     record {
       rooms = h.rooms;
@@ -54,14 +54,15 @@ cleared_right start m n slots old new h fits is =
 
 -- ---- kept
 
-pub kept_right : (start m s : State) (old new : Checkpoints) (slot steps : ℕ) → AreRight start m old
+pub kept_right : (start m s : State) (count : ℕ) (old new : Checkpoints) (slot steps : ℕ)
+    → AreRight start m count old
     → s ≡ after steps m → AreOfOneMachine start s
     → new ≡ record old {
       slots = slice_set old.slots slot
           (record { state = s; steps = steps; generation = old.generation });
     }
-    → AreRight start m new
-kept_right start m s old new slot steps h here fits is =
+    → AreRight start m count new
+kept_right start m s count old new slot steps h here fits is =
     let c : Checkpoint = record { state = s; steps = steps; generation = old.generation } in
     rw is (record {
       rooms = length-set old.slots slot c ∙ h.rooms;
@@ -78,9 +79,9 @@ slot_fits xs n x s there h is = subst (λ (c : Checkpoint). AreOfOneMachine c.st
 -- ---- used
 
 -- all checkpoints are of the machine that has this state
-pub all_fit : (start m s : State) (cs : Checkpoints) → AreRight start m cs → AreOfOneMachine start s
-    → All (λ c. AreOfOneMachine c.state s) cs.slots
-all_fit start m s cs h fits =
+pub all_fit : (start m s : State) (count : ℕ) (cs : Checkpoints) → AreRight start m count cs
+    → AreOfOneMachine start s → All (λ c. AreOfOneMachine c.state s) cs.slots
+all_fit start m s count cs h fits =
     all_then (λ c. AreOfOneMachine start c.state) (λ c. AreOfOneMachine c.state s) cs.slots
     (λ c f. same_trans c.state start s (same_sym start c.state f) fits) h.fits
 
@@ -137,8 +138,17 @@ last_mark [] count m s some any = absurd (omega (arith, any))
 last_mark (x ∷ xs) zero m s some any = absurd (omega (arith, some))
 last_mark (x ∷ xs) (suc n) m s some any = refl
 
-pub marked_right : (s t : State) (xs : List State) (n : ℕ) (cs : Checkpoints) → s ≡ t → xs ≡ replicate n t → n ≡ 8
-    → AreRight t t cs → AreRight s (slice_index_or xs 0 s) cs
-marked_right s t xs n cs e is eight h =
-    let first : slice_index_or (replicate 8 t) 0 s ≡ t = refl in
-    rw (is, eight, first, e) h
+first_of : (s t : State) (n : ℕ) → 0 < n → slice_index_or (replicate n t) 0 s ≡ t
+first_of s t zero some = absurd (omega (arith, some))
+first_of s t (suc n) some = refl
+
+pub marked_right : (s t : State) (xs : List State) (n count : ℕ) (cs : Checkpoints) → s ≡ t → xs ≡ replicate n t
+    → 0 < n → count ≡ 2 * n → AreRight t t count cs → AreRight s (slice_index_or xs 0 s) (2 * length xs) cs
+marked_right s t xs n count cs e is some both h =
+    let all : length (replicate n t) ≡ n = length-replicate n t in
+    rw (is, first_of s t n some, e, all, ← both) h
+
+-- where the rooms for marks are as many as before, so are those for checkpoints
+pub as_many_right : (start m : State) (n k : ℕ) (cs : Checkpoints) → n ≡ k → AreRight start m (2 * k) cs
+    → AreRight start m (2 * n) cs
+as_many_right start m n k cs same h = rw same h

@@ -1,4 +1,5 @@
 mod Checkpointing
+mod Copies
 pub mod Following
 mod Rooms
 pub mod Ticks

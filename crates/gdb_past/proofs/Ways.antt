@@ -1,5 +1,5 @@
 -- A machine that goes on from the last mark.
-use Rattle.std.proofs.Common.{◌≡◌, ◌∙◌, suc, ap, refl, slice_index_or, subst, sym}
+use Rattle.std.proofs.Common.{◌≡◌, ◌∙◌, ℕ, suc, ap, refl, slice_index_or, subst, sym}
 use Rattle.gdb_past.proofs.Following.{after_more, after_none, same_refl, same_step, same_trans}
 use Rattle.gdb_past.specs.Places.{past_from}
 use Rattle.gdb_past.specs.Ways.{IsAfterMark, StaysAfterMark}
@@ -8,8 +8,8 @@ use Rattle.reference.specs.State.{State}
 use Rattle.reference.specs.Step.{step}
 
 -- at first it is at the mark
-pub at_first : (s : State) → IsAfterMark (past_from s) s
-at_first s = record { fits = same_refl s; steps = 0; there = λ m. sym (after_none s) }
+pub at_first : (room : ℕ) (s : State) → IsAfterMark (past_from room s) s
+at_first room s = record { fits = same_refl s; steps = 0; there = λ m. sym (after_none s) }
 
 -- after a step
 pub on_by_step : (s : State) → StaysAfterMark s (step s).state

@@ -17,9 +17,6 @@ pub record Checkpoints : Type 0 where
   -- how often they were cleared: those of an earlier generation are of an earlier mark
   pub generation : ℕ
 
-abbrev pub max_checkpoints : ℕ
-max_checkpoints = 16
-
 -- no checkpoint of this generation is used
 abbrev pub last_generation : ℕ
 last_generation = 2 ^ 64 - 1
@@ -28,16 +25,16 @@ last_generation = 2 ^ 64 - 1
 abbrev pub IsRight : State → ℕ → Checkpoint → Type 0
 IsRight m generation c = c.generation ≡ generation → generation < last_generation → c.state ≡ after c.steps m
 
--- there is room for all checkpoints of the machine that has the state `start`, and each is right for the mark m
-pub record AreRight (start m : State) (cs : Checkpoints) : Type 0 where
-  pub rooms : length cs.slots ≡ max_checkpoints
+-- there is room for `count` checkpoints of the machine that has the state `start`, and each is right for the mark m
+pub record AreRight (start m : State) (count : ℕ) (cs : Checkpoints) : Type 0 where
+  pub rooms : length cs.slots ≡ count
   pub fits : All (λ c. AreOfOneMachine start c.state) cs.slots
   pub before : All (λ c. c.generation ≤ cs.generation) cs.slots
   pub right : All (λ c. IsRight m cs.generation c) cs.slots
 
 -- a checkpoint, by its number, can be used for a place that is `most` steps after the mark, or later
 pub record IsNear (cs : Checkpoints) (most number : ℕ) : Type 0 where
-  pub there : number < max_checkpoints
+  pub there : number < length cs.slots
   pub used : cs.generation < last_generation
   pub same : (c : Checkpoint) → (slice_index_or cs.slots number c).generation ≡ cs.generation
   pub few : (c : Checkpoint) → (slice_index_or cs.slots number c).steps ≤ most

@@ -1,4 +1,5 @@
 pub mod Checkpoints
+pub mod Copies
 pub mod Places
 pub mod Rooms
 pub mod Ways

@@ -1,6 +1,6 @@
 -- What is kept of a machine's past (profile).
 use Rattle.reference.specs.State.{State}
-use Rattle.std.specs.Prelude.{◌≡◌, ℕ, nat_lt, Bool, if◌then◌else◌, List, [], ◌∷◌, length, slice_index_or, take}
+use Rattle.std.specs.Prelude.{◌≡◌, ℕ, ◌-◌, nat_lt, Bool, if◌then◌else◌, List, [], ◌∷◌, length, slice_index_or, take}
 use Rattle.devices.specs.declared.device.Device.{Device}
 use Rattle.devices.specs.Devices.{DeviceWords}
 use Rattle.platform.specs.Memory.{Memory}
@@ -11,6 +11,8 @@ pub record Past : Type 0 where
   -- the states to which a session can go back, the last one first: after the last write at each tick at which something
   -- was written, and before them the state before the first step
   pub marks : List State
+  -- how many marks there is room for
+  pub room : ℕ
 
 -- a mark, by its number from the last one, and m where there are fewer
 abbrev pub mark_of : Past → ℕ → State → State
@@ -19,22 +21,22 @@ mark_of past number m = slice_index_or past.marks number m
 abbrev pub tick_of : State → ℕ
 tick_of s = s.bus.system.time.ticks
 
--- before the first step, and after the session begins anew
-abbrev pub past_from : State → Past
-past_from s = record { start = s; marks = s ∷ [] }
+-- before the first step, with room for so many marks
+abbrev pub past_from : ℕ → State → Past
+past_from room s = record { start = s; marks = s ∷ []; room = room }
 
--- the most marks: the last ones are kept (profile)
-abbrev pub max_marks : ℕ
-max_marks = 8
+-- after the session begins anew
+abbrev pub past_anew : Past → Past
+past_anew past = past_from past.room past.start
 
 -- the marks before a tick
 abbrev pub below : ℕ → List State → List State
 below tick [] = []
 below tick (m ∷ marks) = if nat_lt (tick_of m) tick then m ∷ marks else below tick marks
 
--- after a write, which left this state
+-- after a write, which left this state: of the marks before it the last ones stay, as far as there is room
 abbrev pub marked : Past → State → Past
-marked past s = record past { marks = take max_marks (s ∷ below (tick_of s) past.marks) }
+marked past s = record past { marks = s ∷ take (past.room - 1) (below (tick_of s) past.marks) }
 
 -- where a block of memory is, and whether a store may change it
 pub record Extent : Type 0 where

@@ -1,7 +1,7 @@
 //! Checkpoints: copies of states on the way from the last mark, so that going back makes few steps twice.
 
-ghost use Rattle.std.specs.Prelude.{◌≡◌, ◌<◌, ◌≤◌, All, IfOk, IfSome, None, true};
-ghost use Rattle.gdb_past.specs.Checkpoints.{AreRight, IsNear, max_checkpoints};
+ghost use Rattle.std.specs.Prelude.{◌≡◌, ℕ, ◌<◌, ◌≤◌, All, IfOk, IfSome, None, length, true};
+ghost use Rattle.gdb_past.specs.Checkpoints.{AreRight, IsNear};
 ghost use Rattle.gdb_past.specs.Places.{AreOfOneMachine};
 ghost use Rattle.reference.specs.Run.{after};
 ghost use Rattle.reference.specs.State.{State};
@@ -9,9 +9,6 @@ ghost use Rattle.reference.specs.State.{State};
 use machine::{Decider, Exceptions, KeptCode, Machine, SavedState, SysTickState};
 use std::alloc::{AllocError, Global};
 use std::marker::Model;
-
-/// The most checkpoints.
-const MAX_CHECKPOINTS: usize = 16;
 
 /// Room for a checkpoint: a state, how many steps after the mark it is, and the generation in which it was kept.
 #[derive(Drop)]
@@ -89,26 +86,24 @@ pub struct Checkpoints<L: Exceptions, U: SysTickState> {
 }
 
 impl<L: Exceptions, U: SysTickState> Model for Checkpoints<L, U> {
-    ghost use Rattle.std.specs.Prelude.{◌≡◌, length};
-    ghost use Rattle.gdb_past.specs.Checkpoints.{Checkpoints as CheckpointsView, max_checkpoints};
+    ghost use Rattle.gdb_past.specs.Checkpoints.{Checkpoints as CheckpointsView};
 
     ghost Value = { CheckpointsView };
 
     ghost view = { λ c. record { slots = c.slots.items; generation = c.generation } };
-
-    ghost invariant = { λ c. length c.slots.items ≡ max_checkpoints };
 }
 
 impl<L: Exceptions, U: SysTickState> Checkpoints<L, U> {
-    /// Returns room for the checkpoints of a mark, where the machine is, or fails where memory can't be allocated.
+    /// Returns room for `count` checkpoints of a mark, where the machine is, or fails where memory can't be allocated.
     pub fn new<D: Decider, C: KeptCode>(
         alloc: Global,
+        count: usize,
         machine: &Machine<D, C, L, U>,
     ) -> Result<Self, AllocError>
-        ensures { IfOk result (λ checkpoints. AreRight machine.now.state machine.now.state checkpoints) }
+        ensures { IfOk result (λ checkpoints. AreRight machine.now.state machine.now.state count checkpoints) }
     {
         let mut slots = Vec::new(alloc);
-        'slots: for number in 0..MAX_CHECKPOINTS {
+        'slots: for number in 0..count {
             let _ = number;
             slots.push(Checkpoint::of(alloc, machine)?)?;
         }
@@ -118,9 +113,16 @@ impl<L: Exceptions, U: SysTickState> Checkpoints<L, U> {
         })
     }
 
+    /// Returns how many checkpoints there is room for.
+    pub fn count(&self) -> usize
+        ensures { result ≡ length self.now.slots }
+    {
+        self.slots.len()
+    }
+
     /// Forgets all checkpoints, for another mark.
     pub fn clear(&mut self)
-        ensures { (start m n : State) → AreRight start m self.old → AreRight start n self.new }
+        ensures { (start m n : State) (count : ℕ) → AreRight start m count self.old → AreRight start n count self.new }
     {
         self.generation = self.generation.saturating_add(1);
     }
@@ -132,17 +134,18 @@ impl<L: Exceptions, U: SysTickState> Checkpoints<L, U> {
         steps: u64,
         machine: &Machine<D, C, L, U>,
     )
-        requires slot { slot < max_checkpoints }
+        requires slot { slot < length self.old.slots }
         requires fits { All (λ c. AreOfOneMachine c.state machine.now.state) self.old.slots }
-        ensures { (start m : State) → AreRight start m self.old → machine.now.state ≡ after steps m
-            → AreOfOneMachine start machine.now.state → AreRight start m self.new }
+        ensures { (start m : State) (count : ℕ) → AreRight start m count self.old
+            → machine.now.state ≡ after steps m → AreOfOneMachine start machine.now.state
+            → AreRight start m count self.new }
     {
         self.slots[slot].set(steps, self.generation, machine);
     }
 
     /// Returns whether a checkpoint is of this mark, from `least` to `most` steps after it.
     fn is_between(&self, number: usize, least: u64, most: u64) -> bool
-        requires { number < max_checkpoints }
+        requires { number < length self.now.slots }
         ensures { result ≡ true → IsNear self.now most number }
     {
         let slot = &self.slots[number];
@@ -154,7 +157,7 @@ impl<L: Exceptions, U: SysTickState> Checkpoints<L, U> {
 
     /// Returns the later one of two checkpoints, if the second one is at most `most` steps after the mark.
     fn later(&self, best: Option<usize>, number: usize, most: u64) -> Option<usize>
-        requires number { number < max_checkpoints }
+        requires number { number < length self.now.slots }
         requires best { IfSome best (λ n. IsNear self.now most n) }
         ensures { IfSome result (λ n. IsNear self.now most n) }
     {
@@ -174,7 +177,7 @@ impl<L: Exceptions, U: SysTickState> Checkpoints<L, U> {
         ensures { IfSome result (λ number. IsNear self.now most number) }
     {
         let mut best = None;
-        'slots: for number in 0..MAX_CHECKPOINTS {
+        'slots: for number in 0..self.slots.len() {
             best = self.later(best, number, most);
         }
         best
@@ -189,7 +192,7 @@ impl<L: Exceptions, U: SysTickState> Checkpoints<L, U> {
     ) -> Option<u64>
         requires { All (λ c. AreOfOneMachine machine.old.state c.state) self.now.slots }
         ensures few { IfSome result (λ steps. steps ≤ most) }
-        ensures state { (start m : State) → AreRight start m self.now
+        ensures state { (start m : State) (count : ℕ) → AreRight start m count self.now
             → IfSome result (λ steps. machine.new ≡ record machine.old { state = after steps m }) }
         ensures none { result ≡ None → machine.new ≡ machine.old }
     {

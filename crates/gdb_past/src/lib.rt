@@ -4,6 +4,8 @@
 mod checkpoints;
 mod past;
 mod position;
+mod room;
 
 pub use past::Past;
 pub use position::{Position, make_steps};
+pub use room::room_of;

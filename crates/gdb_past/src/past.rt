@@ -1,8 +1,8 @@
 //! What a session keeps of a machine's past.
 
-ghost use Rattle.std.specs.Prelude.{◌≡◌, ℕ, ◌<◌, ◌≤◌, ◌∷◌, drop, length, take, IfOk, None};
-ghost use Rattle.gdb_past.specs.Checkpoints.{max_checkpoints};
-ghost use Rattle.gdb_past.specs.Places.{AreOfOneMachine, below, mark_of, marked, max_marks, past_from, tick_of};
+ghost use Rattle.std.specs.Prelude.{◌≡◌, ℕ, ◌+◌, ◌-◌, ◌<◌, ◌≤◌, ◌∷◌, drop, length, take, IfOk, None};
+ghost use Rattle.gdb_past.specs.Copies.{checkpoints_for, copies_for, max_marks};
+ghost use Rattle.gdb_past.specs.Places.{AreOfOneMachine, below, mark_of, marked, past_anew, past_from, tick_of};
 ghost use Rattle.gdb_past.specs.Ways.{IsAfterMark};
 ghost use Rattle.reference.specs.Run.{after};
 ghost use Rattle.reference.specs.State.{State};
@@ -14,26 +14,18 @@ use std::alloc::{AllocError, Global};
 use std::marker::Model;
 use step_laws::a_step_takes_a_tick;
 
-/// The most marks.
-const MAX_MARKS: usize = 8;
+/// How many checkpoints there are for each mark.
+const CHECKPOINTS: usize = 2;
 
-/// How many checkpoints are spread over a long way: the slots 0 to 11.
-const SPREAD: usize = 12;
-
-/// The shortest distance between two of these.
+/// The shortest distance between two checkpoints that are spread over a long way.
 const MIN_SPACING: u64 = 262_144;
 
 /// The distance of the checkpoints of a machine that goes forward: one is kept at each tick that it divides, if only
 /// for a while.
 const FORWARD_SPACING: u64 = 131_072;
 
-/// How many levels these have: those of the next level are four times as far apart. Of each the last three stay.
-const LEVELS: usize = 5;
-
-/// The number of the slots. The last four are for checkpoints near the place that is gone to.
-const SLOTS: usize = 16;
-
-/// The distance of the first of these from the place. That of the next one is an eighth of it, and so on.
+/// The distance of the first checkpoint near a place that is gone to. That of the next one is an eighth of it, and so
+/// on.
 const FIRST_DISTANCE: u64 = 32_768;
 
 /// Room for a mark: a state to which a session can go back, and its tick.
@@ -93,21 +85,37 @@ impl<L: Exceptions, U: SysTickState> Mark<L, U> {
     }
 }
 
-/// Returns the slot of the checkpoint of a tick: three for each level, in turn, those of the lowest level at the end,
-/// where the checkpoints near a place are. At the ticks that four times the spacing of a level divides are those of the
-/// next level.
-fn slot_ahead(tick: u64) -> usize
-    ensures { result < max_checkpoints }
+/// Returns how many of the slots are for checkpoints near the place that is gone to: the last quarter, or one. The
+/// others are for checkpoints that are spread over a long way.
+fn near_slots(slots: usize) -> usize
+    requires { 0 < slots }
+    ensures { result ≤ slots }
 {
+    (slots / 4).max(1)
+}
+
+/// Returns the slot of the checkpoint of a tick, for a machine that goes forward. A quarter of the slots, rounded down,
+/// is the number of levels that have three slots each, in turn, those of the lowest level at the end. At the ticks that
+/// four times the spacing of a level divides are those of the next level. The highest level has the slots that are
+/// left.
+fn slot_ahead(tick: u64, slots: usize) -> usize
+    requires { 0 < slots }
+    ensures { result < slots }
+{
+    let levels = slots / 4;
     let mut rank = tick / FORWARD_SPACING;
     let mut level = 0;
-    'levels: for next in 1..LEVELS {
+    'levels: for lower in 0..levels {
         if rank % 4 == 0 {
             rank /= 4;
-            level = next;
+            level = lower + 1;
         }
     }
-    SLOTS - 1 - (3 * level + (rank % 4) as usize)
+    if level < levels {
+        slots - 1 - (3 * level + ((rank % 4) as usize).saturating_sub(1))
+    } else {
+        (rank % (slots - 3 * levels) as u64) as usize
+    }
 }
 
 /// What a session keeps of a machine's past.
@@ -122,31 +130,41 @@ pub struct Past<L: Exceptions, U: SysTickState> {
 }
 
 impl<L: Exceptions, U: SysTickState> Model for Past<L, U> {
-    ghost use Rattle.std.specs.Prelude.{slice_index_or, take};
+    ghost use Rattle.std.specs.Prelude.{length, slice_index_or, take};
     ghost use Rattle.gdb_past.specs.Checkpoints.{AreRight};
+    ghost use Rattle.gdb_past.specs.Copies.{checkpoints_for};
     ghost use Rattle.gdb_past.specs.Places.{Past as PastView};
     ghost use Rattle.gdb_past.specs.Rooms.{HasRoom};
 
     ghost Value = { PastView };
 
-    ghost view = { λ p. record { start = p.start; marks = take p.count p.marks.items } };
+    ghost view = { λ p. record {
+      start = p.start;
+      marks = take p.count p.marks.items;
+      room = length p.marks.items;
+    } };
 
     ghost invariant = { λ p. HasRoom p.start p.marks.items p.count
-        × AreRight p.start (slice_index_or p.marks.items 0 p.start) p.checkpoints };
+        × AreRight p.start (slice_index_or p.marks.items 0 p.start) (checkpoints_for (length p.marks.items))
+        p.checkpoints };
 }
 
 impl<L: Exceptions, U: SysTickState> Past<L, U> {
-    /// Returns what is kept before the first step, or fails where memory can't be allocated.
+    /// Returns what is kept before the first step, with room for so many marks, or fails where memory can't be
+    /// allocated.
     pub fn new<D: Decider, C: KeptCode>(
         alloc: Global,
+        room: usize,
         machine: &Machine<D, C, L, U>,
     ) -> Result<Self, AllocError>
-        ensures { IfOk result (λ past. past ≡ past_from machine.now.state) }
+        requires some { 0 < room }
+        requires few { room ≤ max_marks }
+        ensures { IfOk result (λ past. past ≡ past_from room machine.now.state) }
     {
-        let checkpoints = Checkpoints::new(alloc, machine)?;
+        let checkpoints = Checkpoints::new(alloc, CHECKPOINTS * room, machine)?;
         let start = machine.save(alloc)?;
         let mut marks = Vec::new(alloc);
-        'marks: for number in 0..MAX_MARKS {
+        'marks: for number in 0..room {
             let _ = number;
             marks.push(Mark::of(alloc, machine)?)?;
         }
@@ -165,6 +183,23 @@ impl<L: Exceptions, U: SysTickState> Past<L, U> {
         ensures few { result ≤ max_marks }
     {
         self.count
+    }
+
+    /// Returns how many copies of the machine's state are kept, or have room: that of the state before the first step,
+    /// and those for marks and checkpoints.
+    pub fn copies(&self) -> usize
+        ensures { result ≡ 1 + copies_for self.now.room }
+    {
+        1 + self.marks.len() + self.checkpoints.count()
+    }
+
+    /// Returns how many slots there are for checkpoints.
+    fn slots(&self) -> usize
+        ensures slots { result ≡ checkpoints_for self.now.room }
+        ensures some { 0 < result }
+        ensures few { result ≤ checkpoints_for max_marks }
+    {
+        self.checkpoints.count()
     }
 
     /// Returns the tick of a mark, by its number from the last one.
@@ -210,7 +245,7 @@ impl<L: Exceptions, U: SysTickState> Past<L, U> {
         steps: u64,
         machine: &Machine<D, C, L, U>,
     )
-        requires slot { slot < max_checkpoints }
+        requires slot { slot < checkpoints_for self.old.room }
         requires state { (m : State) → machine.now.state ≡ after steps (mark_of self.old 0 m) }
         ensures { self.new ≡ self.old }
     {
@@ -226,7 +261,7 @@ impl<L: Exceptions, U: SysTickState> Past<L, U> {
         to: u64,
         machine: &mut Machine<D, C, L, U>,
     ) -> u64
-        requires slot { slot < max_checkpoints }
+        requires slot { slot < checkpoints_for self.old.room }
         requires state { (m : State) → machine.old.state ≡ after from (mark_of self.old 0 m) }
         ensures past { self.new ≡ self.old }
         ensures few { (n : ℕ) → from ≤ n → to ≤ n → result ≤ n }
@@ -241,14 +276,16 @@ impl<L: Exceptions, U: SysTickState> Past<L, U> {
         to
     }
 
-    /// Makes the steps from a place after the last mark to a later one, as far as checkpoints are spread over the way.
-    /// Returns how many steps after the mark the machine is.
+    /// Makes the steps from a place after the last mark to a later one, as far as `count` checkpoints are spread over the
+    /// way. Returns how many steps after the mark the machine is.
     fn spread<D: Decider, C: KeptCode>(
         &mut self,
+        count: usize,
         from: u64,
         to: u64,
         machine: &mut Machine<D, C, L, U>,
     ) -> u64
+        requires count { count ≤ checkpoints_for self.old.room }
         requires order { from ≤ to }
         requires state { (m : State) → machine.old.state ≡ after from (mark_of self.old 0 m) }
         ensures past { self.new ≡ self.old }
@@ -256,12 +293,12 @@ impl<L: Exceptions, U: SysTickState> Past<L, U> {
         ensures state { (m : State) → machine.new
             ≡ record machine.old { state = after result (mark_of self.old 0 m) } }
     {
-        let spacing = (to - from) / 12;
+        let spacing = (to - from) / (count as u64).saturating_add(1);
         let mut at = from;
         if spacing < MIN_SPACING {
             return at;
         }
-        'slots: for slot in 0..SPREAD {
+        'slots: for slot in 0..count {
             at = self.keep_at(slot, at, at + spacing.min(to - at), machine);
         }
         at
@@ -280,9 +317,11 @@ impl<L: Exceptions, U: SysTickState> Past<L, U> {
         ensures state { (m : State) → machine.new
             ≡ record machine.old { state = after to (mark_of self.old 0 m) } }
     {
-        let mut at = self.spread(from, to, machine);
+        let slots = self.slots();
+        let spread = slots - near_slots(slots);
+        let mut at = self.spread(spread, from, to, machine);
         let mut distance = FIRST_DISTANCE;
-        'slots: for slot in SPREAD..SLOTS {
+        'slots: for slot in spread..slots {
             at = self.keep_at(slot, at, to.saturating_sub(distance), machine);
             distance /= 8;
         }
@@ -333,7 +372,7 @@ impl<L: Exceptions, U: SysTickState> Past<L, U> {
                 let marks = self.count();
                 prove!(marks > 0);
                 let steps = tick.saturating_sub(self.tick(0));
-                self.save_to(slot_ahead(tick), steps, machine);
+                self.save_to(slot_ahead(tick, self.slots()), steps, machine);
             }
         }
     }
@@ -382,14 +421,15 @@ impl<L: Exceptions, U: SysTickState> Past<L, U> {
         requires few { count ≤ length self.old.marks }
         requires fits { AreOfOneMachine self.old.start machine.now.state }
         ensures { self.new ≡ record self.old {
-          marks = take max_marks (machine.now.state ∷ drop count self.old.marks);
+          marks = machine.now.state ∷ take (self.old.room - 1) (drop count self.old.marks);
         } }
     {
+        let room = self.marks.len();
         self.checkpoints.clear();
         self.marks.rotate_left(count);
         self.marks.rotate_right(1);
         self.marks[0].set(machine);
-        self.count = (self.count - count + 1).min(MAX_MARKS);
+        self.count = (self.count - count + 1).min(room);
     }
 
     /// Marks the machine's state after a write.
@@ -405,7 +445,7 @@ impl<L: Exceptions, U: SysTickState> Past<L, U> {
     pub fn restart<D: Decider, C: KeptCode>(&mut self, machine: &mut Machine<D, C, L, U>)
         requires { AreOfOneMachine machine.old.state self.old.start }
         ensures machine { machine.new ≡ record machine.old { state = self.old.start } }
-        ensures past { self.new ≡ past_from self.old.start }
+        ensures past { self.new ≡ past_anew self.old }
     {
         machine.restore(&self.start);
         let count = self.count();

@@ -14,7 +14,7 @@ use Rattle.gdb.specs.Targets.{altered_if}
 use Rattle.gdb.specs.Turns.{Turned, turn}
 use Rattle.gdb_past.proofs.Following.{after_none, same_trans}
 use Rattle.gdb_past.proofs.Ways.{at_first}
-use Rattle.gdb_past.specs.Places.{AreOfOneMachine, Past, marked, past_from}
+use Rattle.gdb_past.specs.Places.{AreOfOneMachine, Past, marked, past_anew, past_from}
 use Rattle.gdb_past.specs.Ways.{IsAfterMark}
 use Rattle.gdb_server.proofs.Refusals.{Unless, placed_unless, written_unless}
 use Rattle.gdb_server.proofs.Sizes.{put_stays, written_stays}
@@ -34,8 +34,12 @@ on_ok (Ok done) p = p
 on_ok (Err error) p = tt
 
 -- before the first byte
-pub ready_first : (s : State) → IsAfterMark (past_from s) s
-ready_first s = at_first s
+pub ready_first : {room : ℕ} (s : State) → IsAfterMark (past_from room s) s
+ready_first {room} s = at_first room s
+
+-- after the session begins anew
+pub ready_anew : (past : Past) → IsAfterMark (past_anew past) past.start
+ready_anew past = at_first past.room past.start
 
 -- a session and a machine after a call
 pub now_ahead : (k : Session) (new : MachineModel) (past : Past) (s : State) → k.past ≡ past → new.state ≡ s
@@ -96,7 +100,7 @@ by_ahead past s (Ok (monitor.Budget steps)) h = h
 by_ahead past s (Ok (monitor.Place place)) h =
     let r : Result State PlaceError = altered_if s place in
     left_ahead past s (after_place s r).state true (after_place s r).refused h (put_stays s place) (placed_unless s r)
-by_ahead past s (Ok monitor.Restart) h = at_first past.start
+by_ahead past s (Ok monitor.Restart) h = ready_anew past
 by_ahead past s (Ok monitor.Why) h = h
 by_ahead past s (Err why) h = h
 

@@ -11,7 +11,7 @@ use Rattle.gdb.specs.declared.turns.Turn.{Turn}
 use Rattle.gdb.specs.declared.turns.Turn.TheVariants as turning
 use Rattle.gdb.specs.Returns.{Returned, first_search, return}
 use Rattle.gdb.specs.Turns.{Turned, turn}
-use Rattle.gdb_past.specs.Places.{Past, marked, past_from, tick_of}
+use Rattle.gdb_past.specs.Places.{Past, marked, past_anew, tick_of}
 use Rattle.gdb_packets.specs.declared.framer.Event.{Event}
 use Rattle.gdb_packets.specs.declared.framer.Event.TheVariants as event
 use Rattle.gdb_packets.specs.Framing.{Framing, after, at_start, event_of, minus, plus}
@@ -87,7 +87,7 @@ past_by past w (Ok (monitor.Stop what on)) = past
 past_by past w (Ok (monitor.Step over)) = past
 past_by past w (Ok (monitor.Budget steps)) = past
 past_by past w (Ok (monitor.Place place)) = past_after past true w.state w.refused
-past_by past w (Ok monitor.Restart) = past_from past.start
+past_by past w (Ok monitor.Restart) = past_anew past
 past_by past w (Ok monitor.Why) = past
 past_by past w (Err why) = past
 
@@ -137,7 +137,7 @@ searched k s search = returned k (return k.settings k.points k.features k.past s
 
 -- the machine is in its first state, which is the only mark
 abbrev pub restarted : Session → Session
-restarted k = record k { past = past_from k.past.start }
+restarted k = record k { past = past_anew k.past }
 
 -- and the reply is that to `?`
 abbrev pub begun : Session → Answered

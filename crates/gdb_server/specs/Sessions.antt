@@ -2,6 +2,7 @@
 use Rattle.std.specs.Prelude.{ℕ, Bool, true, false, List, [], codes, Option, Some, None, Result, Ok, Err}
 use Rattle.devices.specs.declared.device.Device.{Device}
 use Rattle.gdb.specs.declared.slices.Points.{Points}
+use Rattle.gdb_past.specs.Copies.{room_of}
 use Rattle.gdb_past.specs.Places.{Past, past_from}
 use Rattle.gdb_packets.specs.Replies.{packet_of}
 use Rattle.gdb_server.specs.Replies.{server_features}
@@ -74,7 +75,7 @@ opened limit board devices s = record {
   limit = limit;
   board = board;
   devices = devices;
-  past = past_from s;
+  past = past_from (room_of board) s;
 }
 
 -- ---- replies: their data, or why the packet is refused

@@ -31,7 +31,7 @@ use gdb::{
     send_packet,
 };
 use gdb_packets::{Event, Packet, read_packet};
-use gdb_past::{Past, Position};
+use gdb_past::{Past, Position, room_of};
 use gdb_texts::{
     Breakpoints, ErrorCode, Features, Monitor, Reply, Settings, Signal, Watchpoints,
     first_settings, read_features, refusal, reply_text,
@@ -156,7 +156,7 @@ impl<L: Exceptions, U: SysTickState> Session<L, U> {
             limit,
             board,
             devices,
-            past: Past::new(alloc, machine)?,
+            past: Past::new(alloc, room_of(&board), machine)?,
             position: Position::new(alloc, machine)?,
         })
     }

@@ -21,9 +21,9 @@ returns-in-Some-clause-state g c = λ m.
     let start : State = c.self.inside.start in
     let xs : List State = c.self.inside.marks.items in
     let none : c.args.number ≡ 0 = omega (arith, c.if-number-gt0.false) in
-    let any : 0 < length xs = omega (arith, c.self.invariant.0.rooms) in
+    let any : 0 < length xs = omega (arith, c.self.invariant.0.some, c.self.invariant.0.few) in
     rw (← c.self.view_is)
-    (c.in-Some.ensures.state start (slice_index_or xs 0 start) c.self.invariant.1
+    (c.in-Some.ensures.state start (slice_index_or xs 0 start) _ c.self.invariant.1
     ∙ ap (λ (s : State). record c.args.machine.now { state = after c.in-Some.steps s })
     (last_mark xs c.self.inside.count m start c.self.invariant.0.some any
     ∙ ap (λ i. slice_index_or (take c.self.inside.count xs) i m) (sym none)))
@@ -33,9 +33,9 @@ returns-in-Some-clause-same g c =
     let start : State = c.self.inside.start in
     let xs : List State = c.self.inside.marks.items in
     let mark : State = slice_index_or xs 0 start in
-    let any : 0 < length xs = omega (arith, c.self.invariant.0.rooms) in
+    let any : 0 < length xs = omega (arith, c.self.invariant.0.some, c.self.invariant.0.few) in
     let there : c.restore-2.new.machine.state ≡ after c.in-Some.steps mark =
-    ap (λ (k : MachineModel). k.state) (c.in-Some.ensures.state start mark c.self.invariant.1) in
+    ap (λ (k : MachineModel). k.state) (c.in-Some.ensures.state start mark _ c.self.invariant.1) in
     rw (← c.self.view_is)
     (subst (λ (s : State). AreOfOneMachine start s) (sym there)
     (same_trans start mark (after c.in-Some.steps mark) (c.self.invariant.0.fits 0 start any)

@@ -13,7 +13,7 @@ here : (start s : State) (xs : List State) (count steps : ℕ) → HasRoom start
     → (s ≡ after steps (slice_index_or xs 0 start)) × AreOfOneMachine start s
 here start s xs count steps room is =
     let mark : State = slice_index_or xs 0 start in
-    let any : 0 < length xs = omega (arith, room.rooms) in
+    let any : 0 < length xs = omega (arith, room.some, room.few) in
     let there : s ≡ after steps mark =
     is start ∙ sym (ap (λ (m : State). after steps m) (last_mark xs count start start room.some any)) in (
       there,
@@ -26,7 +26,7 @@ save_to-requires-clause-fits g c =
     let start : State = c.self.inside.start in
     let s : State = c.args.machine.now.state in
     let xs : List State = c.self.inside.marks.items in
-    all_fit start (slice_index_or xs 0 start) s c.self.inside.checkpoints c.self.invariant.1
+    all_fit start (slice_index_or xs 0 start) s _ c.self.inside.checkpoints c.self.invariant.1
     (here start s xs c.self.inside.count c.args.steps c.self.invariant.0
     (rw (← c.self.view_is) at c.requires.state)).1
 
@@ -37,5 +37,5 @@ invariant_of-self g c =
     let facts = here start c.args.machine.now.state xs c.self.inside.count c.args.steps c.self.invariant.0
     (rw (← c.self.view_is) at c.requires.state) in (
       c.self.invariant.0,
-      c.save_to.ensures start (slice_index_or xs 0 start) c.self.invariant.1 facts.0 facts.1,
+      c.save_to.ensures start (slice_index_or xs 0 start) _ c.self.invariant.1 facts.0 facts.1,
     )

@@ -1,6 +1,6 @@
 use Rattle.std.proofs.Common.{◌≡◌, ◌∙◌, ap, rules}
-use Rattle.gdb_past.specs.Places.{past_from}
-use Rattle.gdb_server.proofs.Ahead.{now_ahead, ready_first}
+use Rattle.gdb_past.specs.Places.{past_anew}
+use Rattle.gdb_server.proofs.Ahead.{now_ahead, ready_anew}
 use Rattle.gdb_server.proofs.Keeping.{moved}
 use Rattle.gdb_server.specs.Conduct.{answered}
 use Rattle.machine.specs.MachineModel.{MachineModel}
@@ -48,9 +48,9 @@ returns-in-Restart-clause-delivers g c =
 
 pub returns-in-Restart-clause-ahead : goal.returns-in-Restart-clause-ahead
 returns-in-Restart-clause-ahead g c =
-    now_ahead c.restart.new.self c.restart.new.machine (past_from c.args.self.now.past.start)
+    now_ahead c.restart.new.self c.restart.new.machine (past_anew c.args.self.now.past)
     c.args.self.now.past.start (ap (λ (k : Session). k.past) c.restart.ensures.kept)
-    (ap (λ (m : MachineModel). m.state) c.restart.ensures.machine) (ready_first c.args.self.now.past.start)
+    (ap (λ (m : MachineModel). m.state) c.restart.ensures.machine) (ready_anew c.args.self.now.past)
 
 pub restart-requires : goal.restart-requires
 restart-requires g c = c.requires.fits

@@ -1,6 +1,6 @@
 use Rattle.std.proofs.Common.{◌≡◌, List, ℕ, Result, ap, subst}
-use Rattle.gdb_past.specs.Places.{past_from}
-use Rattle.gdb_server.proofs.Ahead.{now_ahead, on_ok, ready_first}
+use Rattle.gdb_past.specs.Places.{past_anew}
+use Rattle.gdb_server.proofs.Ahead.{now_ahead, on_ok, ready_anew}
 use Rattle.gdb_server.proofs.Marking.{begun_data, session_begun}
 use Rattle.gdb_server.specs.Conduct.{begun, piece}
 use Rattle.gdb_server.specs.declared.purposes.Reading.TheVariants as reading
@@ -41,9 +41,9 @@ returns-clause-ahead g c =
     c.restart.ensures.kept (ap (λ (m : MachineModel). m.state) c.restart.ensures.machine) c.read-data.ensures
     c.put_reply.ensures.kept in
     on_ok c.put_reply.result
-    (now_ahead c.put_reply.new.self c.restart.new.machine (past_from k.past.start) k.past.start
+    (now_ahead c.put_reply.new.self c.restart.new.machine (past_anew k.past) k.past.start
     (ap (λ (s : Session). s.past) kept) (ap (λ (m : MachineModel). m.state) c.restart.ensures.machine)
-    (ready_first k.past.start))
+    (ready_anew k.past))
 
 pub restart-requires : goal.restart-requires
 restart-requires g c = c.requires.fits
