@@ -3,5 +3,4 @@ mod Ends
 mod Missing
 mod Sent
 mod SessionEnds
-mod Waiting
 mod Texts

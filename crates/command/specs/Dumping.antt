@@ -1,6 +1,6 @@
 -- The bytes of memory that go to files after a run.
-use Rattle.std.specs.Prelude.{◌≡◌, ◌⊎◌, ◌+◌, ℕ, zero, suc, Bool, true, false, ◌&&◌, List, [], ◌++◌, is_some}
-use Rattle.std.specs.Prelude.{option_to_list}
+use Rattle.std.specs.Prelude.{◌≡◌, ◌⊎◌, ◌+◌, ℕ, zero, suc, Bool, true, false, ◌&&◌, List, [], ◌∷◌, ◌++◌}
+use Rattle.std.specs.Prelude.{is_some, option_to_list}
 use Rattle.std.specs.List.{list_all}
 use Rattle.command_line.specs.declared.dumps.Dump.{Dump}
 use Rattle.instruction_set.specs.Words.{word_sum}
@@ -32,3 +32,23 @@ abbrev pub Dumps : Dump → State → Writing → Writing → Bool → Type 0
 Dumps dump s old new true = WritesAll old new (dump_bytes dump s)
 Dumps dump s old new false =
     (IsCutShort old.written new.written (dump_bytes dump s) × (new.errors ≡ old.errors + 1)) ⊎ (new ≡ old)
+
+-- the bytes of dumps, one dump after another
+abbrev pub all_dump_bytes : List Dump → State → List ℕ
+all_dump_bytes [] s = []
+all_dump_bytes (dump ∷ dumps) s = dump_bytes dump s ++ all_dump_bytes dumps s
+
+-- one of the dumps failed, after all bytes of those before it went out
+pub record StopsAtDump (dumps : List Dump) (s : State) (old new : Writing) : Type 0 where
+  pub before : List Dump
+  pub dump : Dump
+  pub later : List Dump
+  pub are : dumps ≡ before ++ dump ∷ later
+  pub mid : Writing
+  pub went : WritesAll old mid (all_dump_bytes before s)
+  pub failed : Dumps dump s mid new false
+
+-- all bytes of all dumps went out, and no call failed; or one of them failed
+abbrev pub DumpsAll : List Dump → State → Writing → Writing → Bool → Type 0
+DumpsAll dumps s old new true = WritesAll old new (all_dump_bytes dumps s)
+DumpsAll dumps s old new false = StopsAtDump dumps s old new

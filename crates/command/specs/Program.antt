@@ -1,11 +1,11 @@
 -- The whole program: from the arguments to the exit status, with what it reads and what it writes.
-use Rattle.std.specs.Prelude.{◌≡◌, ◌⊎◌, ◌≤◌, ℕ, Bool, true, false, List, [], ◌∷◌, length, Option, None, Result, Ok, Err}
+use Rattle.std.specs.Prelude.{◌≡◌, ◌⊎◌, ◌≤◌, ℕ, Bool, true, List, [], length, Option, None, Result, Ok, Err}
 use Rattle.std.specs.Prelude.{string_bytes}
 use Rattle.std.specs.Io.KnownBytes.{prepend_known}
 use Rattle.command.specs.declared.error.Error.{Error}
 use Rattle.command.specs.declared.files.FileError.{FileError}
 use Rattle.command.specs.declared.running.FinishedRun.{FinishedRun}
-use Rattle.command.specs.Dumping.{Dumps}
+use Rattle.command.specs.Dumping.{DumpsAll}
 use Rattle.command.specs.Gdb.{GdbTo}
 use Rattle.command.specs.Opening.{board_in_file}
 use Rattle.command.specs.Reports.{ReportsTo}
@@ -29,73 +29,63 @@ use Rattle.platform.specs.Boards.{Described}
 use Rattle.platform.specs.Images.{Segment, image_of}
 use Rattle.reference.specs.State.{State}
 
--- ---- with the bytes of the files
+-- what a contract sees of what the program reads and writes: standard input, standard output, and the files for the
+-- state and the memory after a run, whose bytes count as one text
+pub record Streams : Type 0 where
+  pub input : Reading
+  pub out : Writing
+  pub files : Writing
 
--- a file of the system as a writer: no contract sees its bytes
-abbrev pub file_with : ℕ → Writing
-file_with errors = record { written = None; errors = errors; waits = [] }
-
--- the bytes of a dump go to a file, after which `errors` calls of its writer have failed
-pub record DumpsToFile (dump : Dump) (s : State) (done : Bool) : Type 0 where
-  pub errors : ℕ
-  pub dumps : Dumps dump s (file_with 0) (file_with errors) done
-
--- each dump goes to its file, up to the first that fails
-abbrev pub DumpsAll : List Dump → State → Bool → Type 0
-DumpsAll [] s done = done ≡ true
-DumpsAll (dump ∷ dumps) s done =
-    (DumpsToFile dump s true × DumpsAll dumps s done) ⊎ (DumpsToFile dump s false × (done ≡ false))
+-- ---- with the bytes of the image and of the board
 
 -- the dumps of a run, where it was made
-abbrev pub DumpsAfter : List Dump → Result FinishedRun Error → Bool → Type 0
-DumpsAfter dumps (Ok ran) done = DumpsAll dumps ran.machine.state done
-DumpsAfter dumps (Err error) done = Unit {0}
+abbrev pub DumpsAfter : List Dump → Result FinishedRun Error → Writing → Writing → Bool → Type 0
+DumpsAfter dumps (Ok ran) files files' done = DumpsAll dumps ran.machine.state files files' done
+DumpsAfter dumps (Err error) files files' done = files' ≡ files
 
--- a run, after which `errors` calls of the writer of the state's file have failed, then its dumps, and the status
+-- a run, whose last state goes to its file, then its dumps, and the status
 pub record RunsAndSaves (image : Result (List Segment) LoadError) (board : Result Described BoardError)
-    (run : RunOptions) (old new : Writing) (status : ℕ) : Type 0 where
-  pub errors : ℕ
+    (run : RunOptions) (old new files files' : Writing) (status : ℕ) : Type 0 where
   pub ran : Result FinishedRun Error
-  pub runs : RunsOn image board run old new (file_with 0) (file_with errors) ran
+  pub saved : Writing
+  pub runs : RunsOn image board run old new files saved ran
   pub done : Bool
-  pub dumps : DumpsAfter run.dumps.items ran done
+  pub dumps : DumpsAfter run.dumps.items ran saved files' done
   pub is : status ≡ run_status run.expect ran done
 
--- what each subcommand does with the bytes of an image; sessions alone read standard input
-abbrev pub CarriesOut : Subcommand → List ℕ → Result Described BoardError → Reading → Reading → Writing → Writing → ℕ
-    → Type 0
-CarriesOut (Run run) image board before after old new status =
-    RunsAndSaves (image_of image) board run old new status × (after ≡ before)
-CarriesOut (Report report) image board before after old new status =
-    ReportsTo (image_of image) board report.steps old new status × (after ≡ before)
-CarriesOut (Tasks tasks) image board before after old new status =
-    TasksTo image board tasks old new status × (after ≡ before)
-CarriesOut (Debug debug) image board before after old new status =
-    SessionTo (image_of image) board debug.slots before after old new status
-CarriesOut (Gdb gdb) image board before after old new status =
-    GdbTo (image_of image) board gdb.steps before after old new status
+-- what each subcommand does with the bytes of an image; sessions alone read standard input, and runs alone write files
+abbrev pub CarriesOut : Subcommand → List ℕ → Result Described BoardError → Streams → Streams → ℕ → Type 0
+CarriesOut (Run run) image board old new status =
+    RunsAndSaves (image_of image) board run old.out new.out old.files new.files status × (new.input ≡ old.input)
+CarriesOut (Report report) image board old new status =
+    ReportsTo (image_of image) board report.steps old.out new.out status × (new.input ≡ old.input)
+    × (new.files ≡ old.files)
+CarriesOut (Tasks tasks) image board old new status =
+    TasksTo image board tasks old.out new.out status × (new.input ≡ old.input) × (new.files ≡ old.files)
+CarriesOut (Debug debug) image board old new status =
+    SessionTo (image_of image) board debug.slots old.input new.input old.out new.out status × (new.files ≡ old.files)
+CarriesOut (Gdb gdb) image board old new status =
+    GdbTo (image_of image) board gdb.steps old.input new.input old.out new.out status × (new.files ≡ old.files)
 
--- ---- with the files
+-- ---- with the files of the image and of the board
 
 -- a file can't be read, or is too large, and nothing else happens
-pub record FailsToReadFile (before after : Reading) (old new : Writing) (status : ℕ) : Type 0 where
+pub record FailsToReadFile (old new : Streams) (status : ℕ) : Type 0 where
   pub error : FileError
   pub is : status ≡ file_status error
-  pub input : after ≡ before
-  pub out : new ≡ old
+  pub same : new ≡ old
 
 -- the image and the board have these bytes
-pub record PerformsFiles (subcommand : Subcommand) (before after : Reading) (old new : Writing) (status : ℕ) : Type 0
-  where
-    pub image : List ℕ
-    pub board : List ℕ
-    pub image_fits : length image ≤ max_bytes
-    pub board_fits : length board ≤ max_bytes
-    pub performs : CarriesOut subcommand image (board_in_file board) before after old new status
+pub record PerformsFiles (subcommand : Subcommand) (old new : Streams) (status : ℕ) : Type 0 where
+  pub image : List ℕ
+  pub board : List ℕ
+  pub image_fits : length image ≤ max_bytes
+  pub board_fits : length board ≤ max_bytes
+  pub performs : CarriesOut subcommand image (board_in_file board) old new status
 
-abbrev pub DoesSubcommand : Subcommand → Reading → Reading → Writing → Writing → ℕ → Type 0
-DoesSubcommand subcommand before after old new status =
-    PerformsFiles subcommand before after old new status ⊎ FailsToReadFile before after old new status
+abbrev pub DoesSubcommand : Subcommand → Streams → Streams → ℕ → Type 0
+DoesSubcommand subcommand old new status =
+    PerformsFiles subcommand old new status ⊎ FailsToReadFile old new status
 
 -- ---- with the arguments
 
@@ -108,15 +98,16 @@ ReportsArgsError (Version text) old new status =
     ((status ≡ 0) × SendsAll (string_bytes text) old new) ⊎ ((status ≡ 5) × IsCut (string_bytes text) old new)
 ReportsArgsError OutOfMemory old new status = (status ≡ 5) × (new ≡ old)
 
-abbrev pub DoesAsked : Result Subcommand ArgsError → Reading → Reading → Writing → Writing → ℕ → Type 0
-DoesAsked (Ok subcommand) before after old new status = DoesSubcommand subcommand before after old new status
-DoesAsked (Err error) before after old new status = ReportsArgsError error old new status × (after ≡ before)
+abbrev pub DoesAsked : Result Subcommand ArgsError → Streams → Streams → ℕ → Type 0
+DoesAsked (Ok subcommand) old new status = DoesSubcommand subcommand old new status
+DoesAsked (Err error) old new status =
+    ReportsArgsError error old.out new.out status × (new.input ≡ old.input) × (new.files ≡ old.files)
 
 -- what the arguments ask for is done
-pub record DoesArgs (words : List (List ℕ)) (before after : Reading) (old new : Writing) (status : ℕ) : Type 0 where
+pub record DoesArgs (words : List (List ℕ)) (old new : Streams) (status : ℕ) : Type 0 where
   pub asked : Result Subcommand ArgsError
   pub takes : TakesArguments words asked
-  pub does : DoesAsked asked before after old new status
+  pub does : DoesAsked asked old new status
 
 -- ---- with standard input and output
 
@@ -127,19 +118,22 @@ pub record ReadsAhead (ahead : List ℕ) (seen below : Reading) : Type 0 where
 
 -- Standard input is read ahead, and what goes to standard output is gathered on a page. What was read ahead, and what
 -- waits on the page where a call failed, is lost at the end.
-pub record DoesOverStreams (words : List (List ℕ)) (before after : Reading) (old new : Writing) (status : ℕ) : Type 0
-  where
-    pub first : Reading
-    pub begins : ReadsAhead [] first before
-    pub last : Reading
-    pub ahead : List ℕ
-    pub ends : ReadsAhead ahead last after
-    pub lost : List ℕ
-    pub does : DoesArgs words first last old (with_page lost new) status
+pub record DoesOverStreams (words : List (List ℕ)) (old new : Streams) (status : ℕ) : Type 0 where
+  pub first : Reading
+  pub begins : ReadsAhead [] first old.input
+  pub last : Reading
+  pub ahead : List ℕ
+  pub ends : ReadsAhead ahead last new.input
+  pub lost : List ℕ
+  pub does : DoesArgs words (record old { input = first })
+      (record new { input = last; out = with_page lost new.out }) status
 
--- the program ends with this status, from streams with these bytes; what becomes of them is dropped with them
+-- the program ends with this status, from streams with these bytes, of which no call has failed, and with these files:
+-- `new` is what they were when the program let go of them
 pub record EndsWith (words : List (List ℕ)) (left written : Option (List ℕ)) (status : ℕ) : Type 0 where
-  pub after : Reading
-  pub new : Writing
-  pub does : DoesOverStreams words (record { left = left; misses = 0; may_wait = true }) after
-      (record { written = written; errors = 0; waits = [] }) new status
+  pub new : Streams
+  pub does : DoesOverStreams words (record {
+    input = record { left = left; misses = 0; may_wait = true };
+    out = record { written = written; errors = 0; waits = [] };
+    files = record { written = None; errors = 0; waits = [] };
+  }) new status

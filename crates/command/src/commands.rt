@@ -13,6 +13,7 @@ ghost use Rattle.std.specs.declared.io.ErrorKind.TheVariants as kind;
 use crate::debugging::debug;
 use crate::dumping::{FailedDump, write_dumps};
 use crate::error::{Error, write_error};
+use crate::file_writer::{FileOut, FileWriter};
 use crate::files::{FileError, InputFile, read_file};
 use crate::gdb_session::serve_gdb;
 use crate::last_error::LastError;
@@ -20,12 +21,12 @@ use crate::reason::{refuse, write_dump_reason, write_run_notes};
 use crate::reporting::report;
 use crate::running::{end, run, state_file};
 use crate::sending::send;
-use crate::state_file::StateFile;
-use crate::streams::over_streams;
+use crate::streams::{Stream, Streams, over_streams};
 use crate::tasks_command::tasks;
 use command_line::{ArgsError, RunOptions, Subcommand, subcommand_of};
 use machine::{In, Out, Over};
 use messages::{Escaped, Messages};
+use std::alloc::Global;
 use std::io;
 use std::io::{Read, Write};
 use std::marker::Brand;
@@ -44,15 +45,24 @@ pub fn program<R: Files + AllocGlobal, I: Read + Drop, W: Write + Drop, E: Write
 ) -> u8
     ensures { EndsWith (map string_bytes words.now) (I.remaining input) (W.contents out) result }
 {
-    let mut err = Messages::new(err);
-    let (read, sent) = (Blank::new(1), Blank::new(1));
-    end_streams::<R, I, W, Messages<&mut E>, Brand, Brand>(
-        rt, words, input, out, &mut err, read, sent,
-    )
+    let blanks = Blanks {
+        read: Blank::new(1),
+        sent: Blank::new(1),
+        saved: Blank::new(1),
+    };
+    end_streams::<R, I, W, E, Brand, Brand, Brand>(rt, words, input, out, err, blanks)
 }
 
-/// Does what the arguments ask for, and writes why a stream failed. `read` counts the calls of `input` that fail, and
-/// `sent` those of `out`.
+/// Ledgers in which nothing is counted yet: of the failed calls of standard input, of standard output, and of the files
+/// after a run.
+struct Blanks {
+    read: Blank,
+    sent: Blank,
+    saved: Blank,
+}
+
+/// Does what the arguments ask for, and drops the streams. (A caller that opens the ledgers can't be given a value over
+/// them, so that `over_streams` can't return them to `program`.)
 fn end_streams<
     R: Files + AllocGlobal,
     I: Read + Drop,
@@ -60,43 +70,51 @@ fn end_streams<
     E: Write,
     J: Ledger,
     K: Ledger,
->(rt: &R, words: &[String], input: I, out: W, err: &mut E, read: Blank, sent: Blank) -> u8
-    requires read_name { read.name ≡ J.name }
-    requires read_parts { read.parts ≡ J.parts }
-    requires read_some { read.parts ≡ 1 }
-    requires sent_name { sent.name ≡ K.name }
-    requires sent_parts { sent.parts ≡ K.parts }
-    requires sent_some { sent.parts ≡ 1 }
+    L: Ledger,
+>(rt: &R, words: &[String], input: I, out: W, err: &mut E, blanks: Blanks) -> u8
+    requires read_name { blanks.read.name ≡ J.name }
+    requires read_parts { blanks.read.parts ≡ J.parts }
+    requires read_some { blanks.read.parts ≡ 1 }
+    requires sent_name { blanks.sent.name ≡ K.name }
+    requires sent_parts { blanks.sent.parts ≡ K.parts }
+    requires sent_some { blanks.sent.parts ≡ 1 }
+    requires saved_name { blanks.saved.name ≡ L.name }
+    requires saved_parts { blanks.saved.parts ≡ L.parts }
+    requires saved_some { blanks.saved.parts ≡ 1 }
     ensures { EndsWith (map string_bytes words.now) (I.remaining input) (W.contents out) result }
 {
-    let ended = over_streams::<R, I, W, E, J, K>(rt, words, input, out, err, read, sent);
-    write_failure("standard output", ended.out.into_inner().error(), err);
-    write_failure("standard input", ended.input.into_inner().error(), err);
-    let _ = err.flush();
-    ended.status
-}
-
-/// Writes why a stream failed, if it did.
-fn write_failure<E: Write>(name: &str, error: Option<io::Error>, err: &mut E) {
-    if let Some(error) = error {
-        let _ = writeln!(err, "  {name}: {error}");
-    }
+    let Blanks { read, sent, saved } = blanks;
+    let input: Stream<I, J> = Over::new(LastError::new(input), read);
+    let out: Stream<W, K> = Over::new(LastError::new(out), sent);
+    let files: FileWriter<'_, R, L> = FileWriter::new(rt, saved);
+    over_streams(rt, words, Streams { input, out, files }, err).status
 }
 
 /// Does what the arguments ask for.
-pub fn do_args<R: Files + AllocGlobal, I: In, O: Out, E: Write>(
-    rt: &R,
-    words: &[String],
-    input: &mut I,
-    out: &mut O,
-    err: &mut E,
-) -> u8
-    ensures { DoesArgs (map string_bytes words.now) (I.reading input.old) (I.reading input.new)
-        (O.writing out.old) (O.writing out.new) result }
+pub fn do_args<
+    'a,
+    R: Files + AllocGlobal,
+    I: In + Drop,
+    O: Out + Drop,
+    F: FileOut<'a> + Drop,
+    E: Write,
+>(rt: &R, words: &'a [String], streams: &mut Streams<I, O, F>, err: &mut E) -> u8
+    ensures { DoesArgs (map string_bytes words.now)
+        (record {
+          input = I.reading streams.old.input;
+          out = O.writing streams.old.out;
+          files = F.writing streams.old.files;
+        })
+        (record {
+          input = I.reading streams.new.input;
+          out = O.writing streams.new.out;
+          files = F.writing streams.new.files;
+        })
+        result }
 {
     match subcommand_of(rt.alloc(), words) {
-        Ok(subcommand) => do_subcommand(rt, subcommand, input, out, err),
-        Err(error) => answer(error, out, err),
+        Ok(subcommand) => do_subcommand(rt, subcommand, streams, err),
+        Err(error) => answer(error, &mut streams.out, err),
     }
 }
 
@@ -128,15 +146,26 @@ pub fn answer<O: Out, E: Write>(error: ArgsError, out: &mut O, err: &mut E) -> u
 }
 
 /// Reads the image, then the board, and does what the subcommand says with them.
-fn do_subcommand<R: Files + AllocGlobal, I: In, O: Out, E: Write>(
-    rt: &R,
-    subcommand: Subcommand<'_>,
-    input: &mut I,
-    out: &mut O,
-    err: &mut E,
-) -> u8
-    ensures { DoesSubcommand subcommand.entry (I.reading input.old) (I.reading input.new)
-        (O.writing out.old) (O.writing out.new) result }
+fn do_subcommand<
+    'a,
+    R: Files + AllocGlobal,
+    I: In + Drop,
+    O: Out + Drop,
+    F: FileOut<'a> + Drop,
+    E: Write,
+>(rt: &R, subcommand: Subcommand<'a>, streams: &mut Streams<I, O, F>, err: &mut E) -> u8
+    ensures { DoesSubcommand subcommand.entry
+        (record {
+          input = I.reading streams.old.input;
+          out = O.writing streams.old.out;
+          files = F.writing streams.old.files;
+        })
+        (record {
+          input = I.reading streams.new.input;
+          out = O.writing streams.new.out;
+          files = F.writing streams.new.files;
+        })
+        result }
 {
     let image = match read_file(rt, subcommand.image()) {
         Ok(bytes) => bytes,
@@ -154,82 +183,77 @@ fn do_subcommand<R: Files + AllocGlobal, I: In, O: Out, E: Write>(
         path: subcommand.board(),
         bytes: board.as_slice(),
     };
-    perform(rt, subcommand, image, board, input, out, err)
+    perform(rt.alloc(), subcommand, image, board, streams, err)
 }
 
 /// Runs, reports, tells the worlds of, or debugs an image on a board, by commands or by GDB, as the subcommand says.
-fn perform<R: Files + AllocGlobal, I: In, O: Out, E: Write>(
-    rt: &R,
-    subcommand: Subcommand<'_>,
+fn perform<'a, I: In + Drop, O: Out + Drop, F: FileOut<'a> + Drop, E: Write>(
+    alloc: Global,
+    subcommand: Subcommand<'a>,
     image: InputFile<'_>,
     board: InputFile<'_>,
-    input: &mut I,
-    out: &mut O,
+    streams: &mut Streams<I, O, F>,
     err: &mut E,
 ) -> u8
     ensures { CarriesOut subcommand.entry image.entry.bytes.now (board_in_file board.entry.bytes.now)
-        (I.reading input.old) (I.reading input.new) (O.writing out.old) (O.writing out.new) result }
+        (record {
+          input = I.reading streams.old.input;
+          out = O.writing streams.old.out;
+          files = F.writing streams.old.files;
+        })
+        (record {
+          input = I.reading streams.new.input;
+          out = O.writing streams.new.out;
+          files = F.writing streams.new.files;
+        })
+        result }
 {
+    let Streams { input, out, files } = streams;
     match subcommand {
-        Subcommand::Run(options) => {
-            run_and_save::<R, O, E, Brand>(rt, image, board, options, out, err, Blank::new(1))
-        }
-        Subcommand::Report(options) => report(rt.alloc(), image, board, options.steps, out, err),
-        Subcommand::Tasks(options) => tasks(rt.alloc(), image, board, &options, out, err),
-        Subcommand::Debug(options) => {
-            debug(rt.alloc(), image, board, options.slots, input, out, err)
-        }
+        Subcommand::Run(options) => { run_and_save(alloc, image, board, options, out, files, err) }
+        Subcommand::Report(options) => report(alloc, image, board, options.steps, out, err),
+        Subcommand::Tasks(options) => tasks(alloc, image, board, &options, out, err),
+        Subcommand::Debug(options) => { debug(alloc, image, board, options.slots, input, out, err) }
         Subcommand::Gdb(options) => {
-            serve_gdb(rt.alloc(), image, board, options.steps, input, out, err)
+            serve_gdb(alloc, image, board, options.steps, input, out, err)
         }
     }
 }
 
-/// Runs an image on a board, with the files for the state and the memory after the run. Messages are written after
-/// these are closed. `saved` counts the calls of the state's file that fail.
-fn run_and_save<R: Files + AllocGlobal, O: Out, E: Write, K: Ledger>(
-    rt: &R,
+/// Runs an image on a board, and then writes the files for the state and the memory after the run. A file is closed
+/// before a message is written: it may have the number of standard error, where that is closed.
+fn run_and_save<'a, O: Out, F: FileOut<'a>, E: Write>(
+    alloc: Global,
     image: InputFile<'_>,
     board: InputFile<'_>,
-    options: RunOptions<'_>,
+    options: RunOptions<'a>,
     out: &mut O,
+    files: &mut F,
     err: &mut E,
-    saved: Blank,
 ) -> u8
-    requires name { saved.name ≡ K.name }
-    requires parts { saved.parts ≡ K.parts }
-    requires some { saved.parts ≡ 1 }
     ensures { RunsAndSaves (image_of image.entry.bytes.now) (board_in_file board.entry.bytes.now) options.entry
-        (O.writing out.old) (O.writing out.new) result }
+        (O.writing out.old) (O.writing out.new) (F.writing files.old) (F.writing files.new) result }
 {
     let path = state_file(options.state).unwrap_or("");
-    let file = LastError::new(StateFile::new(rt, path));
-    let mut state: Over<LastError<StateFile<'_, R>>, K> = Over::new(file, saved);
-    let ran = run(rt.alloc(), image, board, &options, out, &mut state);
-    // (the file is closed here: it may have the number of standard error, where that is closed)
-    let failed = state.into_inner().error();
+    files.begin(path);
+    let ran = run(alloc, image, board, &options, out, files);
+    let failed = files.end();
     match ran {
-        Ok(ran) => match write_dumps(rt, &ran.machine, options.dumps.as_slice()) {
+        Ok(ran) => match write_dumps(alloc, &ran.machine, options.dumps.as_slice(), files) {
             Ok(()) => {
                 let status = end(ran.stop, options.expect, err);
-                let _ = write_run_notes(rt.alloc(), image, board, ran.stop, err);
+                let _ = write_run_notes(alloc, image, board, ran.stop, err);
                 status
             }
             Err(failed) => refuse_dump(&failed, err),
         },
         Err(error) => {
-            let status = refuse(rt.alloc(), error, image, board, err);
+            let status = refuse(alloc, error, image, board, err);
             if let Some(error) = failed {
                 write_path_error("--state", path, &error, err);
             }
-            write_dump_reason(
-                rt.alloc(),
-                error,
-                image,
-                board,
-                options.dumps.as_slice(),
-                err,
-            );
+            let dumps = options.dumps.as_slice();
+            write_dump_reason(alloc, error, image, board, dumps, err);
             status
         }
     }

@@ -1,18 +1,13 @@
 //! The bytes of memory that go to files after a run.
 
 ghost use Rattle.std.specs.Prelude.{◌≡◌, IfOk, is_ok};
-ghost use Rattle.command.specs.Dumping.{Dumps, are_in_memory, bytes_from, are_all_in_memory};
-ghost use Rattle.command.specs.Program.{DumpsAll, DumpsToFile};
+ghost use Rattle.command.specs.Dumping.{Dumps, DumpsAll, are_in_memory, bytes_from, are_all_in_memory};
 
-use crate::last_error::LastError;
-use crate::state_file::StateFile;
+use crate::file_writer::FileOut;
 use command_line::Dump;
-use machine::{Fast, Out, Over};
+use machine::{Fast, Out};
 use std::alloc::{AllocError, Global};
 use std::io;
-use std::marker::Brand;
-use std::rt::Files;
-use std::sync::ledger::{Blank, Ledger};
 
 /// A dump whose file isn't written: its path, and what the system said, or None where memory ran out.
 #[derive(Drop)]
@@ -75,40 +70,40 @@ fn put_dump<S: Out>(alloc: Global, machine: &Fast, dump: &Dump<'_>, out: &mut S)
     }
 }
 
-/// Writes the bytes of a dump to its file. `calls` counts the calls of that file that fail.
-fn write_dump<'a, R: Files + AllocGlobal, K: Ledger>(
-    rt: &R,
+/// Writes the bytes of a dump to its file.
+fn write_dump<'a, F: FileOut<'a>>(
+    alloc: Global,
     machine: &Fast,
     dump: &Dump<'a>,
-    calls: Blank,
+    files: &mut F,
 ) -> Result<(), FailedDump<'a>>
-    requires name { calls.name ≡ K.name }
-    requires parts { calls.parts ≡ K.parts }
-    requires some { calls.parts ≡ 1 }
-    ensures { DumpsToFile dump.now machine.now.state (is_ok result) }
+    ensures { Dumps dump.now machine.now.state (F.writing files.old) (F.writing files.new) (is_ok result) }
 {
-    let file = LastError::new(StateFile::new(rt, dump.path));
-    let mut out: Over<LastError<StateFile<'_, R>>, K> = Over::new(file, calls);
-    if put_dump(rt.alloc(), machine, dump, &mut out) {
-        return Ok(());
+    files.begin(dump.path);
+    let done = put_dump(alloc, machine, dump, files);
+    let error = files.end();
+    if done {
+        Ok(())
+    } else {
+        Err(FailedDump {
+            path: dump.path,
+            error,
+        })
     }
-    Err(FailedDump {
-        path: dump.path,
-        error: out.into_inner().error(),
-    })
 }
 
 /// Writes the bytes of each dump to its file, in their order, up to the first that fails.
 #[tactic(auto, using(crate::proofs::Dumped::dumped))]
-pub fn write_dumps<'a, R: Files + AllocGlobal>(
-    rt: &R,
+pub fn write_dumps<'a, F: FileOut<'a>>(
+    alloc: Global,
     machine: &Fast,
     dumps: &[Dump<'a>],
+    files: &mut F,
 ) -> Result<(), FailedDump<'a>>
-    ensures { DumpsAll dumps.now machine.now.state (is_ok result) }
+    ensures { DumpsAll dumps.now machine.now.state (F.writing files.old) (F.writing files.new) (is_ok result) }
 {
     'dumps: for dump in dumps {
-        match write_dump::<R, Brand>(rt, machine, dump, Blank::new(1)) {
+        match write_dump(alloc, machine, dump, files) {
             Ok(()) => {}
             Err(failed) => return Err(failed),
         }

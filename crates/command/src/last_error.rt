@@ -20,8 +20,13 @@ impl<T: Drop> LastError<T> {
         LastError { inner, error: None }
     }
 
+    /// Lends the last error.
+    pub fn error(&self) -> Option<&io::Error> {
+        self.error.as_ref()
+    }
+
     /// Returns the last error.
-    pub fn error(self) -> Option<io::Error> {
+    pub fn into_error(self) -> Option<io::Error> {
         let LastError { inner: _, error } = self;
         error
     }

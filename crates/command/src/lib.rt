@@ -6,6 +6,7 @@ mod commands;
 mod debugging;
 mod dumping;
 mod error;
+mod file_writer;
 mod files;
 mod gdb_session;
 mod last_error;
@@ -14,7 +15,6 @@ mod reason;
 mod reporting;
 mod running;
 mod sending;
-mod state_file;
 mod streams;
 mod tasks_command;
 
