@@ -120,6 +120,7 @@ pub fn do_args<
 
 /// Answers arguments that ask for no subcommand. Returns 2; 0 for the version; 5 where the version can't be
 /// written or memory ran out.
+#[inline(never)]
 pub fn answer<O: Out, E: Write>(error: ArgsError, out: &mut O, err: &mut E) -> u8
     ensures { ReportsArgsError error (O.writing out.old) (O.writing out.new) result }
 {
@@ -146,6 +147,7 @@ pub fn answer<O: Out, E: Write>(error: ArgsError, out: &mut O, err: &mut E) -> u
 }
 
 /// Reads the image, then the board, and does what the subcommand says with them.
+#[inline(never)]
 fn do_subcommand<
     'a,
     R: Files + AllocGlobal,
@@ -222,6 +224,7 @@ fn perform<'a, I: In + Drop, O: Out + Drop, F: FileOut<'a> + Drop, E: Write>(
 
 /// Runs an image on a board, and then writes the files for the state and the memory after the run. A file is closed
 /// before a message is written: it may have the number of standard error, where that is closed.
+#[inline(never)]
 fn run_and_save<'a, O: Out, F: FileOut<'a>, E: Write>(
     alloc: Global,
     image: InputFile<'_>,

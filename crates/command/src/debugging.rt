@@ -43,6 +43,7 @@ pub fn debug<I: In, O: Out, E: Write>(
 }
 
 /// Holds a session of a machine, or fails where memory for the slots can't be allocated.
+#[inline(never)]
 fn hold_session<I: In, O: Out>(
     alloc: Global,
     opened: Opened,

@@ -94,6 +94,7 @@ fn write_dump<'a, F: FileOut<'a>>(
 
 /// Writes the bytes of each dump to its file, in their order, up to the first that fails.
 #[tactic(auto, using(crate::proofs::Dumped::dumped))]
+#[inline(never)]
 pub fn write_dumps<'a, F: FileOut<'a>>(
     alloc: Global,
     machine: &Fast,

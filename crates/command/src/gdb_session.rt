@@ -48,6 +48,7 @@ pub fn serve_gdb<I: In, O: Out, E: Write>(
 
 /// Holds a session with GDB of a machine before its first step, or fails where memory can't be allocated for the states
 /// to which it can go back.
+#[inline(never)]
 fn hold_gdb_session<I: In, O: Out>(
     alloc: Global,
     opened: Opened,
@@ -74,6 +75,7 @@ fn hold_gdb_session<I: In, O: Out>(
 
 /// Holds a session with GDB of a machine of a board, by a server before its first byte.
 #[tactic(auto, unfolding(crate::specs::Gdb::gdb_session))]
+#[inline(never)]
 fn serve_machine<D: Decider, C: KeptCode, L: Exceptions, U: SysTickState, I: In, O: Out>(
     server: Server<L, U>,
     machine: &mut Machine<D, C, L, U>,

@@ -1,5 +1,7 @@
 //! The command `marm`: the files that its arguments name, a run from the bytes of an image and of a board to
 //! the bytes of a trace, a page about such a run, the text about its worlds, a debug session, and a session with GDB.
+//! Functions that take or return a machine by value, or write messages, are never inlined: so the stack holds only the
+//! frames of those that are under way.
 #![tactic(auto)]
 
 mod commands;

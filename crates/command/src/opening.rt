@@ -24,6 +24,7 @@ pub struct Opened {
 
 /// Reads an image and a board, and makes their machine. The image is refused first, then the board, then the
 /// start. Memory that runs out for the board or the machine is an error of the board or of the start.
+#[inline(never)]
 pub fn open(alloc: Global, image: &[u8], board: &[u8]) -> Result<Opened, Error>
     ensures { Opens (image_of image.now) (board_in_file board.now) result }
 {
@@ -38,6 +39,7 @@ pub fn open(alloc: Global, image: &[u8], board: &[u8]) -> Result<Opened, Error>
 }
 
 /// Returns the board that the bytes of a file describe.
+#[inline(never)]
 pub fn board_of_file(alloc: Global, bytes: &[u8]) -> Result<Board, BoardError>
     ensures { ReadsBoard (board_in_file bytes.now) result }
 {

@@ -21,6 +21,7 @@ use std::io;
 use std::io::Write;
 
 /// Writes an error and its reason, and returns its status.
+#[inline(never)]
 pub fn refuse<E: Write>(
     alloc: Global,
     error: Error,
@@ -37,6 +38,7 @@ pub fn refuse<E: Write>(
 
 /// Writes the file of an error and what is wrong in it: a field, a key or an event, its value, and
 /// what it takes.
+#[inline(never)]
 pub fn write_reason<E: Write>(
     alloc: Global,
     error: Error,
@@ -62,6 +64,7 @@ pub fn write_reason<E: Write>(
 }
 
 /// Writes what a person may want to know of a run that was made.
+#[inline(never)]
 pub fn write_run_notes<E: Write>(
     alloc: Global,
     image: InputFile<'_>,
@@ -82,6 +85,7 @@ pub fn write_run_notes<E: Write>(
 }
 
 /// Writes which dump isn't all in memory, where that is why nothing was run.
+#[inline(never)]
 pub fn write_dump_reason<E: Write>(
     alloc: Global,
     error: Error,
@@ -118,6 +122,7 @@ fn write_outside<E: Write>(err: &mut E, dump: &Dump<'_>, layout: &Layout) -> io:
 }
 
 /// Writes why a machine of a board doesn't start with an image.
+#[inline(never)]
 fn write_reason_of_start<E: Write>(
     alloc: Global,
     error: StartError,

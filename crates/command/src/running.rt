@@ -34,6 +34,7 @@ pub struct FinishedRun {
 /// Runs an image on a board for at most `options.steps` steps and writes its trace, as far as `options.trace`
 /// selects it, to `out`, and then, where `options.state` names a file, the state of the machine to `state`; or to
 /// `out`, where it is `-`. Nothing is run where a byte of `options.dumps` isn't in memory.
+#[inline(never)]
 pub fn run<O: Out, S: Out>(
     alloc: Global,
     image: InputFile<'_>,
@@ -50,6 +51,7 @@ pub fn run<O: Out, S: Out>(
 }
 
 /// Runs a machine, where all bytes of the dumps are in its memory.
+#[inline(never)]
 fn run_opened<O: Out, S: Out>(
     machine: Fast,
     options: &RunOptions<'_>,
@@ -105,6 +107,7 @@ pub fn state_file(path: Option<&str>) -> Option<&str>
 }
 
 /// Writes the state of a machine, where a file is named for it.
+#[inline(never)]
 fn save<S: Out>(machine: &Fast, path: Option<&str>, out: &mut S) -> Result<(), Error>
     ensures { Saved (text_of path.entry) machine.now.state (S.writing out.old) (S.writing out.new) result }
 {
@@ -136,6 +139,7 @@ fn put_state<O: Out>(machine: &Fast, path: Option<&str>, out: &mut O) -> Result<
 
 /// Runs a machine, and sends the whole text of its selected events, and its state where it is asked for there.
 #[tactic(auto, using(crate::proofs::Sent::output_lemmas))]
+#[inline(never)]
 fn run_through<O: Out>(
     machine: &mut Fast,
     options: &RunOptions<'_>,

@@ -56,6 +56,7 @@ pub fn tasks<O: Out, E: Write>(
 
 /// Makes the steps of a machine, and writes the text about its worlds. Memory for the worlds is taken before the first
 /// step. `file` is the file of the image.
+#[inline(never)]
 fn run_tasks<O: Out>(
     alloc: Global,
     opened: Opened,
