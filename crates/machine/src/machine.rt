@@ -110,6 +110,7 @@ impl<D: Decider, C: KeptCode, L: Exceptions, U: SysTickState> Machine<D, C, L, U
     ghost use Rattle.machine.specs.Execution.{execution_of};
 
     /// Makes the machine of a board, with an image in its memory, before the first step.
+    #[inline(never)]
     pub fn new(alloc: Global, image: &Image<'_>, board: &Board) -> Result<Self, StartError>
         ensures { Starts (start (described board.now) image.now) result }
     {
