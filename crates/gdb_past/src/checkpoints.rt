@@ -95,6 +95,7 @@ impl<L: Exceptions, U: SysTickState> Model for Checkpoints<L, U> {
 
 impl<L: Exceptions, U: SysTickState> Checkpoints<L, U> {
     /// Returns room for `count` checkpoints of a mark, where the machine is, or fails where memory can't be allocated.
+    #[inline(never)]
     pub fn new<D: Decider, C: KeptCode>(
         alloc: Global,
         count: usize,

@@ -152,6 +152,7 @@ impl<L: Exceptions, U: SysTickState> Model for Past<L, U> {
 impl<L: Exceptions, U: SysTickState> Past<L, U> {
     /// Returns what is kept before the first step, with room for so many marks, or fails where memory can't be
     /// allocated.
+    #[inline(never)]
     pub fn new<D: Decider, C: KeptCode>(
         alloc: Global,
         room: usize,

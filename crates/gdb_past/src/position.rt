@@ -31,6 +31,7 @@ impl<L: Exceptions, U: SysTickState> Model for Position<L, U> {
 
 impl<L: Exceptions, U: SysTickState> Position<L, U> {
     /// Returns the position of a machine, or fails where memory can't be allocated.
+    #[inline(never)]
     pub fn new<D: Decider, C: KeptCode>(
         alloc: Global,
         machine: &Machine<D, C, L, U>,

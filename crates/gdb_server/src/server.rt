@@ -31,6 +31,7 @@ impl<L: Exceptions, U: SysTickState> Model for Server<L, U> {
 impl<L: Exceptions, U: SysTickState> Server<L, U> {
     /// Returns a server of a machine of a board with these devices before its first byte. Runs go to the tick `limit`
     /// at most. Fails where memory can't be allocated, and where there are more than 256 devices.
+    #[inline(never)]
     pub fn new<D: Decider, C: KeptCode>(
         alloc: Global,
         limit: u64,

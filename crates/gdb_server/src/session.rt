@@ -122,6 +122,7 @@ fn data_of_write(refused: Option<PlaceError>) -> Result<Data, ErrorCode>
 impl<L: Exceptions, U: SysTickState> Session<L, U> {
     /// Returns a session of a machine before its first packet, whose runs go to the tick `limit` at most. Fails where
     /// memory can't be allocated, and where there are more than 256 devices.
+    #[inline(never)]
     pub fn new<D: Decider, C: KeptCode>(
         alloc: Global,
         limit: u64,
