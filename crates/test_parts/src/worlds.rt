@@ -2,11 +2,14 @@
 
 use crate::settings::registers_of;
 use access_map::{AccessMap, Span, World, are_apart, map_text, pair_text, shared};
-use platform::board::{Layout, SecondRam};
-use platform::mpu::RegionCount;
+use board::read_board;
+use platform::board::Layout;
 use std::alloc::Global;
 use std::io;
 use test_tables::{Outcome, first_difference_of_bytes, number_at, part, word};
+
+/// What each board has beside where its flash begins.
+const SIZES: &str = "flash_size = 0x4000\nram_size = 0x2000\npriority_bits = 4\nlines = 0\n";
 
 /// Returns the outcome of a row of a table of worlds.
 pub fn outcome(alloc: Global, table: &str, row: &str) -> io::Result<Outcome> {
@@ -37,17 +40,6 @@ fn wanted(alloc: Global, row: &str) -> Option<String> {
     Some(wanted)
 }
 
-/// The board of the kernels `round_robin` and `mailbox`.
-const BOARD: Layout = Layout {
-    flash_base: 0,
-    flash_size: 0x4000,
-    ram_size: 0x2000,
-    second_ram: None,
-    priority_bits: 4,
-    interrupts: 0,
-    regions: RegionCount::Eight,
-};
-
 /// The rest of the line of a row that begins with a word.
 fn line_of<'a>(row: &'a str, name: &str) -> Option<&'a str> {
     'lines: for line in row.lines().skip(1) {
@@ -58,19 +50,26 @@ fn line_of<'a>(row: &'a str, name: &str) -> Option<&'a str> {
     None
 }
 
-/// The board of a row: where flash begins, and a second RAM.
-fn board_of(row: &str) -> Option<Layout> {
-    let mut board = BOARD;
-    if let Some(line) = line_of(row, "flash") {
-        board.flash_base = number_at(line, 1)?;
+/// The text of a second RAM of a row; empty where it has none.
+fn second_ram_of(alloc: Global, row: &str) -> Option<String> {
+    match line_of(row, "second") {
+        Some(line) => {
+            let (base, size) = (number_at(line, 1)?, number_at(line, 2)?);
+            format!(in alloc; "[[ram]]\nbase = {base}\nsize = {size}\n").ok()
+        }
+        None => Some(String::new(alloc)),
     }
-    if let Some(line) = line_of(row, "second") {
-        board.second_ram = Some(SecondRam {
-            base: number_at(line, 1)?,
-            size: number_at(line, 2)?,
-        });
-    }
-    Some(board)
+}
+
+/// The board of a row: that of the kernels `round_robin` and `mailbox`, but for where flash begins, and a second RAM.
+fn board_of(alloc: Global, row: &str) -> Option<Layout> {
+    let flash_base = match line_of(row, "flash") {
+        Some(line) => number_at(line, 1)?,
+        None => 0,
+    };
+    let second_ram = second_ram_of(alloc, row)?;
+    let text = format!(in alloc; "flash_base = {flash_base}\n{SIZES}{second_ram}").ok()?;
+    Some(read_board(alloc, text.as_str()).ok()?.layout)
 }
 
 /// The world of a line: after a bar its registers, and before it whether the execution priority is below 0.
@@ -84,7 +83,7 @@ fn world_of(line: &str) -> Option<World> {
 /// The map of the world of a row.
 fn map(alloc: Global, row: &str) -> Option<Vec<u8>> {
     let line = line_of(row, "world")?;
-    let map = AccessMap::of(alloc, &world_of(line)?, &board_of(row)?).ok()?;
+    let map = AccessMap::of(alloc, &world_of(line)?, &board_of(alloc, row)?).ok()?;
     let number: u8 = word(line, 1).parse().ok()?;
     map_text(alloc, number, &map).ok()
 }
@@ -104,7 +103,7 @@ fn allowed(alloc: Global, row: &str) -> Option<Vec<Span>> {
 
 /// What the worlds 1 and 3 of a row share, or that `are_apart` says otherwise.
 fn pair(alloc: Global, row: &str) -> Option<Vec<u8>> {
-    let board = board_of(row)?;
+    let board = board_of(alloc, row)?;
     let one = world_of(line_of(row, "one")?)?;
     let other = world_of(line_of(row, "other")?)?;
     let allowed = allowed(alloc, row)?;
