@@ -16,6 +16,7 @@ mod short_files;
 mod short_messages;
 mod starts;
 mod steps;
+mod steps_back;
 mod tasks;
 mod worlds;
 mod writers;
