@@ -4,3 +4,4 @@ mod Missing
 mod Sent
 mod SessionEnds
 mod Texts
+mod Waiting
