@@ -1,4 +1,4 @@
-use Rattle.std.proofs.Common.{ap, drop, sym, take}
+use Rattle.std.proofs.Common.{[], ap, drop, sym, take}
 use Rattle.std.specs.Io.KnownBytes.{prepend_known}
 use Rattle.command.proofs.Waiting.{does_over_streams, nothing_ahead, nothing_waits}
 use Rattle.command.proofs.streams.over_streams.Goals as goal
