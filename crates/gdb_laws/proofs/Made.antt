@@ -7,14 +7,14 @@ use Rattle.std.proofs.lemmas.Bool.{cases_lt, cond_both}
 use Rattle.std.proofs.lemmas.Bool.Decides.{nat_tests}
 use Rattle.std.proofs.lemmas.List.{append-nil}
 use Rattle.std.proofs.lemmas.List.Folds.{concat-append}
-use Rattle.std.specs.List.{concat}
+use Rattle.std.specs.List.{concat, last_or}
 use Rattle.gdb.specs.declared.over.ReturnPoint.{ReturnPoint}
 use Rattle.gdb.specs.declared.slices.Plan.{Plan}
 use Rattle.gdb.specs.declared.slices.Points.{Points}
 use Rattle.gdb.specs.declared.turns.Run.{Run}
 use Rattle.gdb.specs.declared.turns.Turn.{Turn}
 use Rattle.gdb.specs.declared.turns.Turn.TheVariants.{Asks, Ends}
-use Rattle.gdb.specs.Consoles.{console_after, emptied, flush_text, sent_by}
+use Rattle.gdb.specs.Consoles.{Console, console_after, console_with, emptied, flush_text, sent_by, with_byte}
 use Rattle.gdb.specs.Over.{is_back}
 use Rattle.gdb.specs.Reasons.{breakpoint_reason, fault_reason, first_cause, first_hit, has_entry, has_fault, leaves}
 use Rattle.gdb.specs.Reasons.{reason_at_breakpoint, reason_back, reason_if, reason_in_unit, reason_of_events, reason_or}
@@ -96,6 +96,30 @@ going_both m n s first next i below = elim (cases_lt i m) [
       ap (λ (j : ℕ). (after j s).stop) (sym e) ∙ (ap (λ (t : State). t.stop) (after_both m (i - m) s) ∙ next (i - m) b))
 ]
 
+-- ---- the last byte of a run's text
+
+last_join : (o : Option ℕ) (xs ys : List ℕ) → last_or o (xs ++ ys) ≡ last_or (last_or o xs) ys
+last_join o [] ys = refl
+last_join o (x ∷ xs) ys = last_join (Some x) xs ys
+
+pub last_with : (c : Console) (byte : ℕ) → (console_with c byte).last ≡ Some byte
+last_with c byte =
+    cond_both _ (emptied (with_byte c byte)) (with_byte c byte) (λ (d : Console). d.last ≡ Some byte) (λ e. refl)
+    (λ e. refl)
+
+last_after : (c : Console) (xs : List ℕ) → (console_after c xs).last ≡ last_or c.last xs
+unfolding console_after
+last_after c [] = refl
+last_after c (x ∷ xs) = last_after (console_with c x) xs ∙ ap (λ (o : Option ℕ). last_or o xs) (last_with c x)
+
+-- after m steps and n more
+last_both : (k : Settings) (before mid : Option ℕ) (m n : ℕ) (s : State) → mid ≡ last_or before (text_of k m s)
+    → last_or mid (text_of k n (after m s)) ≡ last_or before (text_of k (m + n) s)
+last_both k before mid m n s is =
+    ap (λ (o : Option ℕ). last_or o (text_of k n (after m s))) is
+    ∙ (sym (last_join before (text_of k m s) (text_of k n (after m s)))
+    ∙ ap (last_or before) (sym (text_both _ m n s)))
+
 -- ---- some pieces of a run, which goes n steps from one place to another
 
 pub record Made (k : Settings) (n : ℕ) (f g : Flow) (pieces : List Piece) : Type 0 where
@@ -103,13 +127,15 @@ pub record Made (k : Settings) (n : ℕ) (f g : Flow) (pieces : List Piece) : Ty
   pub last : last_state f.state pieces ≡ g.state
   pub going : (i : ℕ) → i < n → (after i f.state).stop ≡ None
   pub cut : Cut f.console (text_of k n f.state) g.console (texts pieces)
+  pub byte : g.console.last ≡ last_or f.console.last (text_of k n f.state)
 
 none_going : (s : State) (i : ℕ) → i < 0 → (after i s).stop ≡ None
 none_going s i below = absurd (omega (arith, below))
 
 pub made_none : (k : Settings) (f : Flow) → Made k 0 f f []
 unfolding after steps_text
-made_none k f = record { state = refl; last = refl; going = none_going f.state; cut = cut_none f.console }
+made_none k f =
+    record { state = refl; last = refl; going = none_going f.state; cut = cut_none f.console; byte = refl }
 
 pub made_both : (k : Settings) (m n : ℕ) (f g h : Flow) (ps qs : List Piece) → Made k m f g ps → Made k n g h qs
     → Made k (m + n) f h (ps ++ qs)
@@ -121,6 +147,8 @@ made_both k m n f g h ps qs first next = record {
   cut = rw (texts-append, text_both) (subst (λ (s : State).
       Cut f.console (text_of k m f.state ++ text_of k n s) h.console (texts ps ++ texts qs))
       first.state (cut_both f.console g.console h.console _ _ (texts ps) (texts qs) first.cut next.cut));
+  byte = next.byte ∙ (ap (λ (s : State). last_or g.console.last (text_of k n s)) first.state
+      ∙ last_both k f.console.last g.console.last m n f.state first.byte);
 }
 
 made_flush : (k : Settings) (f : Flow) → Made k 0 f (flushed f) (flushing f ∷ [])
@@ -131,6 +159,7 @@ made_flush k f = record {
   going = none_going f.state;
   cut = subst (λ (sent : List ℕ). Cut f.console [] (emptied f.console) sent) (sym (append-nil (flush_text f.console)))
       (cut_flush f.console);
+  byte = refl;
 }
 
 pub made_step : (p : Plan) (f : Flow) → f.state.stop ≡ None
@@ -143,6 +172,7 @@ made_step p f goes = record {
   cut = subst (λ (sent : List ℕ).
       Cut f.console (step_text p f.state) (console_after f.console (step_text p f.state)) sent)
       (sym (append-nil (sent_by f.console (step_text p f.state)))) (cut_text f.console (step_text p f.state));
+  byte = last_after f.console (step_text p f.state);
 }
 
 -- ---- the clock
@@ -559,30 +589,32 @@ on_turn limit k E is_gdb features how f later is ends next =
     goes false gdb asks goes_on = rw (sym gdb) (goes_on refl)
 
 -- why it ended, by any reason
-says_why : (k : Settings) (w : List Watchpoint) (r : StopReason) (events : List Event) (f : Flow) (n : ℕ) (s : State)
-    → f.state ≡ after n s → AreEventsFor r n s events
-    → EndsWith k w n s (Ends (signal_of r)) (whys k w r events f)
-says_why k w r events f n s is of = record {
+says_why : (k : Settings) (w : List Watchpoint) (r : StopReason) (events : List Event) (f : Flow) (before : Option ℕ)
+    (n : ℕ) (s : State) → f.state ≡ after n s → f.console.last ≡ last_or before (text_of k n s)
+    → AreEventsFor r n s events → EndsWith k w before n s (Ends (signal_of r)) (whys k w r events f)
+says_why k w r events f before n s is byte of = record {
   why = r;
   events = events;
-  last = f.console.last;
   signal_is = refl;
   of_step = of;
-  lines_are = ap (λ (u : State). why_text k w events (stop_with_line r u.stop) f.console.last) is;
+  lines_are = ap (λ (u : State). why_text k w events (stop_with_line r u.stop) f.console.last) is
+      ∙ ap (λ (o : Option ℕ). why_text k w events (stop_with_line r (after n s).stop) o) byte;
 }
 
 -- the lines of a turn that begins m steps later
-why_later : (k : Settings) (w : List Watchpoint) (m n : ℕ) (s : State) (t : Turn) (lines : List ℕ)
-    → EndsWith k w n (after m s) t lines → EndsWith k w (m + n) s t lines
-why_later k w m n s (Asks run) lines ends = ends
-why_later k w m n s (Ends signal) lines says = record {
+why_later : (k : Settings) (w : List Watchpoint) (before mid : Option ℕ) (m n : ℕ) (s : State) (t : Turn)
+    (lines : List ℕ) → mid ≡ last_or before (text_of k m s) → EndsWith k w mid n (after m s) t lines
+    → EndsWith k w before (m + n) s t lines
+why_later k w before mid m n s (Asks next) lines byte ends = ends
+why_later k w before mid m n s (Ends signal) lines byte says = record {
   why = says.why;
   events = says.events;
-  last = says.last;
   signal_is = says.signal_is;
   of_step = events_later says.why m n s says.events says.of_step;
-  lines_are = says.lines_are ∙ ap (λ (u : State). why_text k w says.events (stop_with_line says.why u.stop) says.last)
-      (sym (after_both m n s));
+  lines_are = says.lines_are ∙ (ap (λ (u : State). why_text k w says.events (stop_with_line says.why u.stop)
+      (last_or mid (text_of k n (after m s)))) (sym (after_both m n s))
+      ∙ ap (λ (o : Option ℕ). why_text k w says.events (stop_with_line says.why (after (m + n) s).stop) o)
+      (last_both k before mid m n s byte));
 }
 
 -- the events of a slice, where its budget is made if nothing else ended it
@@ -592,16 +624,18 @@ events_or None n s es quiet holds = quiet refl
 events_or (Some r) n s es quiet holds = holds
 
 -- the end of a turn after a slice
-sliced_ends : (k : Settings) (w : List Watchpoint) (r : StopReason) (sliced : Sliced) (m : ℕ) (s : State)
-    → sliced.flow.state ≡ after m s → AreEventsFor r m s sliced.events
-    → Later (λ (n : ℕ). EndsWith k w n s) m 0 (Ends (signal_of r)) (whys k w r sliced.events sliced.flow)
-sliced_ends k w r sliced m s is of =
-    subst (λ (n : ℕ). EndsWith k w n s (Ends (signal_of r)) (whys k w r sliced.events sliced.flow)) (omega arith)
-    (says_why k w r sliced.events sliced.flow m s is of)
+sliced_ends : (k : Settings) (w : List Watchpoint) (r : StopReason) (f : Flow) (sliced : Sliced) (m : ℕ)
+    → Made k m f sliced.flow sliced.pieces → AreEventsFor r m f.state sliced.events
+    → Later (λ (n : ℕ). EndsWith k w f.console.last n f.state) m 0 (Ends (signal_of r))
+    (whys k w r sliced.events sliced.flow)
+sliced_ends k w r f sliced m made of =
+    subst (λ (n : ℕ). EndsWith k w f.console.last n f.state (Ends (signal_of r))
+    (whys k w r sliced.events sliced.flow)) (omega arith)
+    (says_why k w r sliced.events sliced.flow f.console.last m f.state made.state made.byte of)
 
 module _ (p : Plan) (points : Points) (features : Features) where
-  abbrev EndsFrom : State → ℕ → Turn → List ℕ → Type 0
-  EndsFrom s n = EndsWith p.settings points.watchpoints n s
+  abbrev EndsFrom : Flow → ℕ → Turn → List ℕ → Type 0
+  EndsFrom f n = EndsWith p.settings points.watchpoints f.console.last n f.state
 
   pub ended_turn : (E : ℕ → Turn → List ℕ → Type 0) (sliced : Sliced) (o : Option StopReason) (later : Turned)
       → ((r : StopReason) → o ≡ Some r
@@ -616,41 +650,42 @@ module _ (p : Plan) (points : Points) (features : Features) where
       on_turn p.limit p.settings E features.is_gdb features p.how sliced.flow later refl (asks refl) (next refl)
 
   slices_turn : (n rest : ℕ) (f : Flow)
-      → TurnFrom p.limit p.settings (EndsFrom f.state) f (slices p points features n rest f)
+      → TurnFrom p.limit p.settings (EndsFrom f) f (slices p points features n rest f)
   unfolding slices
   slices_turn zero rest f =
       let sliced : Sliced = slice p points rest f in
       let makes = slice_makes p points rest f in
       let r : StopReason = unwrap_or sliced.reason reason.Interrupted in
-      after_sliced p points (EndsFrom f.state) rest f _
-      (end_turn p.limit p.settings (Later (EndsFrom f.state) makes.steps) points.watchpoints features r sliced.events
-      sliced.flow (sliced_ends p.settings points.watchpoints r sliced makes.steps f.state makes.made.state
+      after_sliced p points (EndsFrom f) rest f _
+      (end_turn p.limit p.settings (Later (EndsFrom f) makes.steps) points.watchpoints features r sliced.events
+      sliced.flow (sliced_ends p.settings points.watchpoints r f sliced makes.steps makes.made
       (events_or sliced.reason makes.steps f.state sliced.events (slice_quiet p points rest f) makes.events)))
   slices_turn (suc n) rest f =
       let sliced : Sliced = slice p points max_slice_steps f in
       let makes = slice_makes p points max_slice_steps f in
-      after_sliced p points (EndsFrom f.state) max_slice_steps f _
-      (ended_turn (Later (EndsFrom f.state) makes.steps) sliced sliced.reason _
-      (λ r is. sliced_ends p.settings points.watchpoints r sliced makes.steps f.state makes.made.state
+      let later : Turned = slices p points features n rest (flushed sliced.flow) in
+      after_sliced p points (EndsFrom f) max_slice_steps f _
+      (ended_turn (Later (EndsFrom f) makes.steps) sliced sliced.reason _
+      (λ r is. sliced_ends p.settings points.watchpoints r f sliced makes.steps makes.made
       (subst (OnReason (HasEvents makes.steps f.state sliced.events)) is makes.events))
       (λ none gdb. refl)
-      (λ none other. turn_map p.limit p.settings (EndsFrom sliced.flow.state) (Later (EndsFrom f.state) makes.steps)
-      (flushed sliced.flow) (slices p points features n rest (flushed sliced.flow)) (λ i lines ends.
-      why_later p.settings points.watchpoints makes.steps i f.state
-      (slices p points features n rest (flushed sliced.flow)).outcome lines
-      (subst (λ (s : State). EndsWith p.settings points.watchpoints i s
-      (slices p points features n rest (flushed sliced.flow)).outcome lines) makes.made.state ends))
+      (λ none other. turn_map p.limit p.settings (EndsFrom sliced.flow) (Later (EndsFrom f) makes.steps)
+      (flushed sliced.flow) later (λ i lines ends.
+      why_later p.settings points.watchpoints f.console.last sliced.flow.console.last makes.steps i f.state
+      later.outcome lines makes.made.byte
+      (subst (λ (s : State). EndsWith p.settings points.watchpoints sliced.flow.console.last i s later.outcome lines)
+      makes.made.state ends))
       (slices_turn n rest (flushed sliced.flow))))
 
 interrupted_turn : (points : Points) (k : Settings) (features : Features) (limit : ℕ) (run : Run) (s : State)
     (b : Bool) → b ≡ run.is_interrupted
-    → TurnFrom limit k (λ (n : ℕ). EndsWith k points.watchpoints n s) (begun run s)
+    → TurnFrom limit k (λ (n : ℕ). EndsWith k points.watchpoints run.last n s) (begun run s)
     (turn points k features limit run s)
-unfolding after
+unfolding after steps_text
 interrupted_turn points k features limit run s true is =
-    rw (sym is) (end_turn limit k (λ (n : ℕ). EndsWith k points.watchpoints n s) points.watchpoints features
+    rw (sym is) (end_turn limit k (λ (n : ℕ). EndsWith k points.watchpoints run.last n s) points.watchpoints features
     reason.Interrupted [] (begun run s)
-    (says_why k points.watchpoints reason.Interrupted [] (begun run s) 0 s refl refl))
+    (says_why k points.watchpoints reason.Interrupted [] (begun run s) run.last 0 s refl refl refl))
 interrupted_turn points k features limit run s false is =
     rw (sym is) (slices_turn (plan_of k limit run) points features _ _ (begun run s))
 

@@ -1,7 +1,7 @@
 -- A run of `c` that traces all, with nothing else that stops it: the lines at its end are the line of its stop.
 use Rattle.std.proofs.Common.{◌≡◌, ◌∙◌, ◌⊎◌, ◌==◌, ℕ, zero, suc, ◌+◌, ◌*◌, ◌/◌, ◌%◌, ◌≤◌, nat_le, Bool, true, false}
-use Rattle.std.proofs.Common.{not, ◌&&◌, ◌||◌, List, [], ◌∷◌, ◌++◌, Option, Some, None, ap, arith, if◌then◌else◌, inl, inr}
-use Rattle.std.proofs.Common.{is_some, refl, subst, sym, unwrap_or}
+use Rattle.std.proofs.Common.{not, ◌&&◌, ◌||◌, List, [], ◌∷◌, ◌++◌, Option, Some, None, ap, arith, if◌then◌else◌}
+use Rattle.std.proofs.Common.{inl, inr, is_some, refl, subst, sym, unwrap_or}
 use Rattle.std.specs.Prelude.{⊤, codes, decimal}
 use Rattle.std.specs.List.{filter}
 use Rattle.std.proofs.lemmas.Bool.{cond_both}
@@ -16,7 +16,7 @@ use Rattle.gdb.specs.declared.slices.Points.{Points}
 use Rattle.gdb.specs.declared.turns.Run.{Run}
 use Rattle.gdb.specs.declared.turns.Turn.{Turn}
 use Rattle.gdb.specs.declared.turns.Turn.TheVariants.{Asks, Ends}
-use Rattle.gdb.specs.Consoles.{Console, console_after, console_with, emptied, with_byte}
+use Rattle.gdb.specs.Consoles.{Console, console_after, console_with}
 use Rattle.gdb.specs.Over.{is_back}
 use Rattle.gdb.specs.Reasons.{has_entry, reason_at_breakpoint, reason_back, reason_if, reason_in_unit, reason_or}
 use Rattle.gdb.specs.Reasons.{stop_reason, watch_reason}
@@ -26,7 +26,8 @@ use Rattle.gdb.specs.Turns.{Turned, all_slices, asked, begun, ended, flushed, ma
 use Rattle.gdb.specs.Turns.{turn, whys}
 use Rattle.gdb.specs.Whys.{has_line, line_begun, needs_line, stop_text, stop_with_line}
 use Rattle.gdb.proofs.Unwatched.{none_hit}
-use Rattle.gdb_laws.proofs.Made.{Later, TurnFrom, after_both, after_sliced, end_turn, ended_turn, slice_makes, turn_map}
+use Rattle.gdb_laws.proofs.Made.{Later, TurnFrom, after_both, after_sliced, end_turn, ended_turn, last_with}
+use Rattle.gdb_laws.proofs.Made.{slice_makes, turn_map}
 use Rattle.gdb_laws.specs.RunLaw.{Continues, IsOver, IsTraceOf, TraceLaw, WritesTrace}
 use Rattle.gdb_past.specs.Places.{tick_of}
 use Rattle.gdb_texts.specs.declared.actions.Resume.{Resume}
@@ -81,11 +82,6 @@ after-append : (c : Console) (xs ys : List ℕ)
 unfolding console_after
 after-append c [] ys = refl
 after-append c (x ∷ xs) ys = after-append (console_with c x) xs ys
-
-last_with : (c : Console) (byte : ℕ) → (console_with c byte).last ≡ Some byte
-last_with c byte =
-    cond_both _ (emptied (with_byte c byte)) (with_byte c byte) (λ (d : Console). d.last ≡ Some byte) (λ e. refl)
-    (λ e. refl)
 
 after_last : (c : Console) (xs : List ℕ) (byte : ℕ) → (console_after c (xs ++ byte ∷ [])).last ≡ Some byte
 unfolding console_after

@@ -1,6 +1,6 @@
 -- What a turn of a run writes: the text of the steps that it makes, as a run of `marm run` writes it (profile).
 use Rattle.std.specs.Prelude.{◌≡◌, ◌⊎◌, ℕ, suc, ◌+◌, ◌<◌, ◌≤◌, true, false, List, [], ◌++◌, Option, None, is_some}
-use Rattle.std.specs.List.{concat}
+use Rattle.std.specs.List.{concat, last_or}
 use Rattle.debugger_commands.specs.declared.conditions.LineSelection.TheVariants as lines
 use Rattle.gdb.specs.declared.slices.Points.{Points}
 use Rattle.gdb.specs.declared.turns.Run.{Run}
@@ -64,37 +64,39 @@ AreEventsFor reason.Fault n s events = AreOfLastStep n s events
 AreEventsFor reason.Entered n s events = AreOfLastStep n s events
 AreEventsFor reason.Interrupted n s events = events ≡ []
 
-pub record SaysWhy (k : Settings) (watchpoints : List Watchpoint) (n : ℕ) (s : State) (signal : Signal)
-    (lines : List ℕ) : Type 0 where
+-- the lines of these events, and of the stop; `before` is the last byte of the run's text before these steps
+pub record SaysWhy (k : Settings) (watchpoints : List Watchpoint) (before : Option ℕ) (n : ℕ) (s : State)
+    (signal : Signal) (lines : List ℕ) : Type 0 where
   pub why : StopReason
   pub events : List Event
-  pub last : Option ℕ
   pub signal_is : signal ≡ signal_of why
   pub of_step : AreEventsFor why n s events
-  pub lines_are : lines ≡ why_text k watchpoints events (stop_with_line why (after n s).stop) last
+  pub lines_are : lines
+      ≡ why_text k watchpoints events (stop_with_line why (after n s).stop) (last_or before (text_of k n s))
 
 -- a turn that asks GDB ends without lines
-abbrev pub EndsWith : Settings → List Watchpoint → ℕ → State → Turn → List ℕ → Type 0
-EndsWith k watchpoints n s (Asks run) lines = lines ≡ []
-EndsWith k watchpoints n s (Ends signal) lines = SaysWhy k watchpoints n s signal lines
+abbrev pub EndsWith : Settings → List Watchpoint → Option ℕ → ℕ → State → Turn → List ℕ → Type 0
+EndsWith k watchpoints before n s (Asks next) lines = lines ≡ []
+EndsWith k watchpoints before n s (Ends signal) lines = SaysWhy k watchpoints before n s signal lines
 
 -- ---- a turn
 
 -- a turn makes some steps of the machine, none of them after it stopped or with its clock at the limit, and writes
 -- their text, the lines at its end, and one packet: the stop reply, or the question to GDB
-pub record MakesSteps (k : Settings) (watchpoints : List Watchpoint) (limit : ℕ) (s : State) (t : Turned) : Type 0 where
+pub record MakesSteps (k : Settings) (watchpoints : List Watchpoint) (limit : ℕ) (run : Run) (s : State) (t : Turned)
+    : Type 0 where
   pub steps : ℕ
   pub state : last_state s t.pieces ≡ after steps s
   pub going : (i : ℕ) → i < steps → (after i s).stop ≡ None
   pub early : IsEarly limit s steps
   pub lines : List ℕ
   pub text : WritesText t.pieces (text_of k steps s ++ lines) t.sent
-  pub ends : EndsWith k watchpoints steps s t.outcome lines
+  pub ends : EndsWith k watchpoints run.last steps s t.outcome lines
 
 -- each turn does, whatever ends it
 abbrev pub TurnLaw : Points → Settings → Features → ℕ → Run → State → Type 0
 TurnLaw points k features limit run s =
-    MakesSteps k points.watchpoints limit s (turn points k features limit run s)
+    MakesSteps k points.watchpoints limit run s (turn points k features limit run s)
 
 -- ---- `c` with nothing that stops it
 
