@@ -233,9 +233,14 @@ HowEnds limit total made features s n (Ends signal) text =
     (text ≡ stop_line (unwrap_or (after n s).stop StepLimit)) × IsOver limit (after n s)
     ⊎ ((text ≡ []) × (signal ≡ signal_of reason.Interrupted)) × (n ≡ total)
 
--- and it made no more than those that were left
+-- GDB is asked after a slice
+abbrev IsPolled : Features → ℕ → Type 0
+IsPolled features n = features.is_gdb ≡ true → n ≤ max_slice_steps
+
+-- and it made no more steps than those that were left
 abbrev AtEnd : ℕ → ℕ → ℕ → Features → State → ℕ → Turn → List ℕ → Type 0
-AtEnd limit total made features s n t text = (n ≤ total) × HowEnds limit total made features s n t text
+AtEnd limit total made features s n t text =
+    (n ≤ total) × (IsPolled features n × HowEnds limit total made features s n t text)
 
 -- the same end, of a turn that began m steps before
 how_later : (limit total before made m n : ℕ) (features : Features) (s : State) (t : Turn) (text : List ℕ)
@@ -253,8 +258,13 @@ at_later : (limit total before made m n : ℕ) (features : Features) (s : State)
     → features.is_gdb ≡ false → AtEnd limit total before features (after m s) n t text
     → AtEnd limit (m + total) made features s (m + n) t text
 at_later limit total before made m n features s t text other ends =
-    let most = ends.0 in
-    (omega (arith, most), how_later limit total before made m n features s t text other ends.1)
+    let most = ends.0 in (
+      omega (arith, most),
+      (
+        λ gdb. absurd (let w : ⊥ = cc in w),
+        how_later limit total before made m n features s t text other ends.1.1,
+      ),
+    )
 
 -- the steps of n whole slices, and of the rest
 abbrev total_of : ℕ → ℕ → ℕ
@@ -265,22 +275,29 @@ total_is : (n rest : ℕ) → total_of n rest ≡ n * max_slice_steps + rest
 total_is zero rest = omega arith
 total_is (suc n) rest = let e = total_is n rest in omega (arith, e)
 
+small_rest : (n : ℕ) → n % max_slice_steps ≤ max_slice_steps
+small_rest n = omega arith
+
 module _ (limit : ℕ) (over : Bool) (budget : Option ℕ) (features : Features) where
   -- a slice of at most m steps ended a turn, or its budget is made
   last_end : (total m : ℕ) (o : Option StopReason) (es : List Event) (f g : Flow) → g.state ≡ after m f.state
-      → IsStop limit (tick_of g.state) o g.state.stop → EndsLine g.console → m ≤ total → (o ≡ None → m ≡ total)
+      → IsStop limit (tick_of g.state) o g.state.stop → EndsLine g.console → m ≤ total → IsPolled features m
+      → (o ≡ None → m ≡ total)
       → AtEnd limit total f.made features f.state m (Ends (signal_of (unwrap_or o reason.Interrupted)))
       (whys (traced over budget) [] (unwrap_or o reason.Interrupted) es g)
-  last_end total m (Some r) es f g is stops ends most whole = (
+  last_end total m (Some r) es f g is stops ends most polled whole = (
     most,
-    inl (
-      why_lines over budget features r es g ends
-          ∙ (ap stop_text stops.0 ∙ ap (λ (u : State). stop_line (unwrap_or u.stop StepLimit)) is),
-      subst (IsOver limit) is stops.1,
+    (
+      polled,
+      inl (
+        why_lines over budget features r es g ends
+            ∙ (ap stop_text stops.0 ∙ ap (λ (u : State). stop_line (unwrap_or u.stop StepLimit)) is),
+        subst (IsOver limit) is stops.1,
+      ),
     ),
   )
-  last_end total m None es f g is stops ends most whole =
-      (most, inr ((why_lines over budget features reason.Interrupted es g ends, refl), whole refl))
+  last_end total m None es f g is stops ends most polled whole =
+      (most, (polled, inr ((why_lines over budget features reason.Interrupted es g ends, refl), whole refl)))
 
   -- no step is made at the end
   at_slice : (total m : ℕ) (f : Flow) (t : Turn) (text : List ℕ)
@@ -289,11 +306,11 @@ module _ (limit : ℕ) (over : Bool) (budget : Option ℕ) (features : Features)
   at_slice total m f t text ends =
       subst (λ (n : ℕ). AtEnd limit total f.made features f.state n t text) (omega arith) ends
 
-  slices_trace : (n rest : ℕ) (f : Flow) → EndsLine f.console
+  slices_trace : (n rest : ℕ) (f : Flow) → rest ≤ max_slice_steps → EndsLine f.console
       → TurnFrom limit (traced over budget) (AtEnd limit (total_of n rest) f.made features f.state) f
       (slices (goes_on limit over budget) no_points features n rest f)
   unfolding slices
-  slices_trace zero rest f ends =
+  slices_trace zero rest f small ends =
       let sliced : Sliced = slice (goes_on limit over budget) no_points rest f in
       let makes = slice_makes (goes_on limit over budget) no_points rest f in
       let stops = slice_stops limit over budget rest f ends in
@@ -302,8 +319,9 @@ module _ (limit : ℕ) (over : Bool) (budget : Option ℕ) (features : Features)
       (end_turn limit (traced over budget) (Later (AtEnd limit rest f.made features f.state) makes.steps) [] features
       r sliced.events sliced.flow (at_slice rest makes.steps f (Ends (signal_of r))
       (whys (traced over budget) [] r sliced.events sliced.flow) (last_end rest makes.steps sliced.reason
-      sliced.events f sliced.flow makes.made.state stops.why stops.line makes.most makes.whole)))
-  slices_trace (suc n) rest f ends =
+      sliced.events f sliced.flow makes.made.state stops.why stops.line makes.most
+      (λ gdb. (let b = makes.most in omega (arith, b, small))) makes.whole)))
+  slices_trace (suc n) rest f small ends =
       let sliced : Sliced = slice (goes_on limit over budget) no_points max_slice_steps f in
       let makes = slice_makes (goes_on limit over budget) no_points max_slice_steps f in
       let stops = slice_stops limit over budget max_slice_steps f ends in
@@ -316,9 +334,14 @@ module _ (limit : ℕ) (over : Bool) (budget : Option ℕ) (features : Features)
       (whys (traced over budget) [] r sliced.events sliced.flow) (last_end total makes.steps (Some r) sliced.events f
       sliced.flow makes.made.state
       (subst (λ (o : Option StopReason). IsStop limit (tick_of sliced.flow.state) o sliced.flow.state.stop) is
-      stops.why) stops.line most (λ wrong. absurd cc)))
-      (λ none gdb. at_slice total makes.steps f (asked Continue (flushed sliced.flow)).outcome []
-      (most, (refl, (gdb, (makes.whole none, (record { how = refl; whole_lines = stops.line }, makes.count))))))
+      stops.why) stops.line most (λ gdb. makes.most) (λ wrong. absurd cc)))
+      (λ none gdb. at_slice total makes.steps f (asked Continue (flushed sliced.flow)).outcome [] (
+        most,
+        (
+          λ asked. makes.most,
+          (refl, (gdb, (makes.whole none, (record { how = refl; whole_lines = stops.line }, makes.count)))),
+        ),
+      ))
       (λ none other. turn_map limit (traced over budget)
       (AtEnd limit (total_of n rest) sliced.flow.made features sliced.flow.state)
       (Later (AtEnd limit total f.made features f.state) makes.steps) (flushed sliced.flow)
@@ -326,7 +349,7 @@ module _ (limit : ℕ) (over : Bool) (budget : Option ℕ) (features : Features)
       (λ i lines held. next_end n rest f sliced makes.steps i
       (slices (goes_on limit over budget) no_points features n rest (flushed sliced.flow)).outcome lines
       (makes.whole none) makes.made.state other held)
-      (slices_trace n rest (flushed sliced.flow) stops.line)))
+      (slices_trace n rest (flushed sliced.flow) small stops.line)))
     where
       next_end : (n rest : ℕ) (f : Flow) (sliced : Sliced) (m i : ℕ) (t : Turn) (lines : List ℕ)
           → m ≡ max_slice_steps → sliced.flow.state ≡ after m f.state → features.is_gdb ≡ false
@@ -364,7 +387,8 @@ trace_of limit left features run n s (Ends signal) lines (inr cut) = inr (record
 -- what the law says of such an end
 abbrev IsTraceEnd : ℕ → ℕ → Features → Run → State → ℕ → Turn → List ℕ → Type 0
 IsTraceEnd limit left features run s n t lines =
-    (n ≤ left) × IsTraceOf limit left features run n s t (steps_text (selected_text All) n s ++ lines)
+    (n ≤ left) × (IsPolled features n × ((run.is_interrupted ≡ true → n ≡ 0)
+    × IsTraceOf limit left features run n s t (steps_text (selected_text All) n s ++ lines)))
 
 module _ (limit : ℕ) (over : Bool) (budget : Option ℕ) (features : Features) (run : Run) (s : State)
     (whole_lines : new_line_after run.last ≡ [])
@@ -377,11 +401,17 @@ module _ (limit : ℕ) (over : Bool) (budget : Option ℕ) (features : Features)
         → IsTraceEnd limit left features run s 0 (Ends (signal_of reason.Interrupted)) lines
     none_made is lines none = (
       omega arith,
-      inr (record {
-        text_is = ap (λ (l : List ℕ). steps_text (selected_text All) 0 s ++ l) none ∙ append-nil _;
-        signal_is = refl;
-        cut = inl (is, refl);
-      }),
+      (
+        λ gdb. omega arith,
+        (
+          λ yes. refl,
+          inr (record {
+            text_is = ap (λ (l : List ℕ). steps_text (selected_text All) 0 s ++ l) none ∙ append-nil _;
+            signal_is = refl;
+            cut = inl is;
+          }),
+        ),
+      ),
     )
 
     -- the turn, of a run that was interrupted or not
@@ -401,18 +431,26 @@ module _ (limit : ℕ) (over : Bool) (budget : Option ℕ) (features : Features)
         turn_map limit (traced over budget) (AtEnd limit
         (total_of (left / max_slice_steps) (left % max_slice_steps)) run.made features s)
         (IsTraceEnd limit left features run s) (begun run s) (turn_if false Continue)
-        (λ n lines ends. at_turn n (turn_if false Continue).outcome lines
+        (λ n lines ends. at_turn n (turn_if false Continue).outcome lines is
         (total_is (left / max_slice_steps) (left % max_slice_steps) ∙ div-add-mod' left max_slice_steps) ends)
         (slices_trace limit over budget features (left / max_slice_steps) (left % max_slice_steps) (begun run s)
-        whole_lines)
+        (small_rest left) whole_lines)
       where
-        at_turn : (n : ℕ) (t : Turn) (lines : List ℕ)
+        at_turn : (n : ℕ) (t : Turn) (lines : List ℕ) → false ≡ run.is_interrupted
             → total_of (left / max_slice_steps) (left % max_slice_steps) ≡ left
             → AtEnd limit (total_of (left / max_slice_steps) (left % max_slice_steps)) run.made features s n t lines
             → IsTraceEnd limit left features run s n t lines
-        at_turn n t lines is ends =
-            let held = subst (λ (total : ℕ). AtEnd limit total run.made features s n t lines) is ends in
-            (held.0, trace_of limit left features run n s t lines held.1)
+        at_turn n t lines on is ends =
+            let held = subst (λ (total : ℕ). AtEnd limit total run.made features s n t lines) is ends in (
+              held.0,
+              (
+                held.1.0,
+                (
+                  λ yes. absurd (let w : ⊥ = cc in w),
+                  trace_of limit left features run n s t lines held.1.1,
+                ),
+              ),
+            )
 
 free_trace : (over : Bool) (budget : Option ℕ) (features : Features) (limit : ℕ) (run : Run) (s : State)
     → Continues run
@@ -429,9 +467,11 @@ free_trace over budget features limit run s continues =
       going = t.going;
       early = t.early;
       most = t.ends.0;
+      polled = t.ends.1.0;
+      interrupted = t.ends.1.1.0;
       text = steps_text (selected_text All) t.steps s ++ t.lines;
       written = record { parts = t.parts; whole = t.whole; written = t.written };
-      trace = t.ends.1;
+      trace = t.ends.1.1.1;
     }
 
 settings_are : (k : Settings) (selection : LineSelection) (has_lines refused faults exceptions : Bool)

@@ -124,11 +124,11 @@ pub record IsWholeTrace (limit n : ℕ) (s : State) (text : List ℕ) : Type 0 w
   pub text_is : text ≡ selected_trace All n s
   pub over : IsOver limit (after n s)
 
--- the run was interrupted before its first step, or no step of its budget is left after n: that line isn't there
+-- the run was interrupted before this turn, or no step of its budget is left after n: that line isn't there
 pub record IsCutTrace (run : Run) (left n : ℕ) (s : State) (signal : Signal) (text : List ℕ) : Type 0 where
   pub text_is : text ≡ steps_text (selected_text All) n s
   pub signal_is : signal ≡ signal_of reason.Interrupted
-  pub cut : (run.is_interrupted ≡ true) × (n ≡ 0) ⊎ (n ≡ left)
+  pub cut : (run.is_interrupted ≡ true) ⊎ (n ≡ left)
 
 -- GDB is asked after a whole slice of n steps, and the next turn goes on from there: that line isn't there either
 pub record IsAskedTrace (features : Features) (run next : Run) (n : ℕ) (s : State) (text : List ℕ) : Type 0 where
@@ -151,6 +151,8 @@ pub record WritesTrace (limit left : ℕ) (features : Features) (run : Run) (s :
   pub going : (i : ℕ) → i < steps → (after i s).stop ≡ None
   pub early : IsEarly limit s steps
   pub most : steps ≤ left
+  pub polled : features.is_gdb ≡ true → steps ≤ max_slice_steps
+  pub interrupted : run.is_interrupted ≡ true → steps ≡ 0
   pub text : List ℕ
   pub written : WritesText t.pieces text t.sent
   pub trace : IsTraceOf limit left features run steps s t.outcome text
