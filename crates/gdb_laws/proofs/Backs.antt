@@ -17,9 +17,10 @@ use Rattle.gdb.specs.Searches.{Place, before_mark, ends_unit, found_from, found_
 use Rattle.gdb.specs.Searches.{place_back, place_of, place_or, reason_after_steps, reason_of_next}
 use Rattle.gdb.specs.Turns.{Turned, turn}
 use Rattle.gdb_past.specs.Places.{Past, tick_of}
-use Rattle.gdb_laws.proofs.Units.{EndsIn, EndsWhole, IsEarly, OnlyLastEnds, turn_unit}
+use Rattle.gdb_laws.proofs.Units.{EndsIn, EndsWhole, OnlyLastEnds, turn_unit}
 use Rattle.gdb_laws.proofs.Made.{after_both}
 use Rattle.gdb_laws.specs.BackLaw.{EndsUnit, IsAlike, MayStepBack, StepAgainLaw, StepBackLaw}
+use Rattle.gdb_laws.specs.RunLaw.{IsEarly}
 use Rattle.gdb_server.specs.Conduct.{first_turn, returned, with_return, with_turn}
 use Rattle.gdb_server.specs.Sessions.{Session}
 use Rattle.gdb_texts.specs.declared.actions.Resume.TheVariants.{Step}

@@ -4,7 +4,6 @@ use Rattle.std.proofs.Common.{[], ◌∷◌, Option, Some, None, ap, arith, if�
 use Rattle.std.proofs.Common.{sym, unwrap_or}
 use Rattle.std.specs.Prelude.{⊤}
 use Rattle.std.proofs.lemmas.Bool.{cases_lt, cond_both}
-use Rattle.std.proofs.lemmas.Bool.Decides.{nat_tests}
 use Rattle.gdb.specs.declared.over.ReturnPoint.{ReturnPoint}
 use Rattle.gdb.specs.declared.slices.Plan.{Plan}
 use Rattle.gdb.specs.declared.slices.Points.{Points}
@@ -20,8 +19,9 @@ use Rattle.gdb.specs.Slices.{Flow, Sliced, after_pieces, at_rest, before_step, h
 use Rattle.gdb.specs.Slices.{reason_then, returns_then, slice, unless_ended}
 use Rattle.gdb.specs.Turns.{Turned, asked_or, begun, ended_or, flushed, flushing, max_slice_steps}
 use Rattle.gdb.specs.Turns.{slices, turn, with_pieces}
-use Rattle.gdb_laws.proofs.Made.{Made, after_both, going_both, goes_from, last-append, made_both, made_none}
-use Rattle.gdb_laws.proofs.Made.{made_step}
+use Rattle.gdb_laws.proofs.Made.{Made, after_both, early_both, early_from, early_none, going_both, goes_from}
+use Rattle.gdb_laws.proofs.Made.{last-append, made_both, made_none, made_step}
+use Rattle.gdb_laws.specs.RunLaw.{IsEarly}
 use Rattle.gdb_past.specs.Places.{tick_of}
 use Rattle.gdb_texts.specs.declared.actions.Resume.TheVariants.{Step}
 use Rattle.gdb_texts.specs.declared.features.Features.{Features}
@@ -71,35 +71,6 @@ last_both s m n first next i below = elim (cases_lt i m) [
       let b : suc (i - m) < n = omega (arith, late, below) in
       ap (λ (j : ℕ). ends_unit (after j s)) (sym e) ∙ (ap ends_unit (after_both m (i - m) s) ∙ next (i - m) b))
 ]
-
--- the clock isn't at the limit before any of n steps from a state
-abbrev pub IsEarly : ℕ → State → ℕ → Type 0
-IsEarly limit s n = (i : ℕ) → i < n → tick_of (after i s) < limit
-
-early_none : (limit : ℕ) (s : State) → IsEarly limit s 0
-early_none limit s i below = absurd (omega (arith, below))
-
-early_both : (limit : ℕ) (s : State) (m n : ℕ) → IsEarly limit s m → IsEarly limit (after m s) n
-    → IsEarly limit s (m + n)
-early_both limit s m n first next i below = elim (cases_lt i m) [
-  | inl early ↦ first i early
-  | inr late ↦ (let e : m + (i - m) ≡ i = omega (arith, late) in
-      let b : i - m < n = omega (arith, late, below) in
-      subst (λ (x : ℕ). x < limit) (ap tick_of (sym (after_both m (i - m) s)) ∙ ap (λ (j : ℕ). tick_of (after j s)) e)
-      (next (i - m) b))
-]
-
--- a step is made where it isn't
-early_from : (limit tick : ℕ) (a b : Option StopReason)
-    → reason_or a (reason_or (reason_if (nat_le limit tick) (reason.Stopped StepLimit)) b) ≡ None → tick < limit
-early_from limit tick a b is =
-    let before : nat_le limit tick ≡ false = none_if a (nat_le limit tick) b is in grind (arith, nat_tests)
-  where
-    none_if : (c : Option StopReason) (late : Bool) (d : Option StopReason)
-        → reason_or c (reason_or (reason_if late (reason.Stopped StepLimit)) d) ≡ None → late ≡ false
-    none_if (Some r) late d wrong = absurd cc
-    none_if None true d wrong = absurd cc
-    none_if None false d right = refl
 
 -- ---- a step that ends a unit ends the run
 

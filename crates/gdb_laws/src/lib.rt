@@ -37,16 +37,18 @@ pub fn reading_leaves_the_machine()
 {}
 
 /// Each turn of a run makes steps of the machine, and gives GDB's console the text of these steps, as a run of
-/// `marm run` with the same selection writes it, and the lines that say why the run ended, if it did. The text is cut
-/// into packets. One packet follows: the stop reply, or the question to GDB.
+/// `marm run` with the same selection writes it, and the lines that say why the run ended, if it did: of the last step,
+/// or, at a watchpoint, of the next one. The text is cut into packets. One packet follows: the stop reply, or the
+/// question to GDB.
 pub fn a_turn_writes_its_steps()
     ensures { (points : Points) (k : Settings) (features : Features) (limit : ℕ) (run : Run) (s : State)
         → TurnLaw points k features limit run s }
 {}
 
-/// With `monitor trace all`, and no breakpoint, no watchpoint and no `monitor stop ..`, a turn of `c` gives GDB's
-/// console what a run of `machine` writes of as many steps: the whole trace to the line of the stop, or, where the run
-/// was interrupted, its budget is made or GDB is asked, the trace without that line.
+/// With `monitor trace all`, and no breakpoint, no watchpoint and no `monitor stop ..`, a turn of `c` makes steps up to
+/// the first stop of the machine or the limit, and gives GDB's console what a run of `machine` writes of as many steps:
+/// the whole trace to the line of the stop. Where the run was interrupted, its budget is made or GDB is asked, it may
+/// make fewer, and gives the trace without that line.
 pub fn continue_writes_the_trace()
     ensures { (points : Points) (k : Settings) (features : Features) (limit : ℕ) (run : Run) (s : State)
         → TraceLaw points k features limit run s }
