@@ -58,15 +58,13 @@ fn both_again<D: Decider, C: KeptCode, L: Exceptions, U: SysTickState>(
     alloc: Global,
     machine: &mut Machine<D, C, L, U>,
     place: u64,
-) -> Result<[u64; 2], AllocError>
-    requires { 0 < place }
-{
+) -> Result<[u64; 2], AllocError> {
     let mut past = Past::new(alloc, room_of(&SMALL_BOARD), machine)?;
     run_on(&mut past, machine, STEPS);
     let marks = past.count();
     prove!(marks > 0);
     let first = steps_again(&mut past, machine, place);
-    let second = steps_again(&mut past, machine, place - 1);
+    let second = steps_again(&mut past, machine, place.saturating_sub(1));
     Ok([first, second])
 }
 
