@@ -3,7 +3,7 @@ system register, a device, and eight regions set anew, each in a loop. Each come
 
 import struct
 
-from loops import REGIONS, SIZES, elf, timer_image
+from loops import LOOPS, REGIONS, SIZES, elf, timer_image
 
 # The vector of SVCall, and where a program's loop and its handler stand.
 SVCALL_VECTOR, LOOP, HANDLER = 0x2C, 0x100, 0x180
@@ -13,8 +13,7 @@ QUIET = SIZES + "lines = 8\n"
 # A word that keeps what is stored there, in the Peripheral region.
 DEVICE = QUIET + "\n[[device]]\nbase = 0x4001_0000\nsize = 4\n"
 
-# MOV R0, #7; STR R0, [R1]; LDR R2, [R1]; B to the MOV.
-STORE_LOAD = [0x2007, 0x6008, 0x680A, 0xE7FB]
+STORE_LOAD, _ = LOOPS["store_load"]
 
 # STM R1, {R2-R5}; LDM R1, {R2-R5}; B to the STM.
 LIST = [0xE881, 0x003C, 0xE891, 0x003C, 0xE7FA]
