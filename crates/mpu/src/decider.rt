@@ -81,6 +81,16 @@ pub struct Search {
     registers: MpuRegs,
 }
 
+impl Search {
+    /// Returns the registers.
+    #[inline(always)]
+    pub fn registers(&self) -> &MpuRegs
+        ensures { result.now ≡ self.now.registers }
+    {
+        &self.registers
+    }
+}
+
 impl Decider for Search {
     ghost decides_for = { λ s m. s.registers ≡ m };
 

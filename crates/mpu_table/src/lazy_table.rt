@@ -15,7 +15,8 @@ const SEARCHES: u8 = 8;
 /// writes.
 #[derive(Drop)]
 pub struct LazyTable {
-    registers: MpuRegs,
+    /// The registers, which it searches as long as their table isn't made.
+    search: Search,
     /// The table of these registers, where it was made, and otherwise that of earlier ones.
     table: Table,
     is_made: bool,
@@ -30,26 +31,27 @@ impl LazyTable {
         ensures { (m : Mpu) → ⟦<LazyTable as Decider>⟧.decides_for self.old m
             → ⟦<LazyTable as Decider>⟧.decides_for self.new m }
     {
+        let registers = self.search.registers();
         if self.is_made
-            || before_regions(self.registers.control(), address, kind, below_zero).is_some()
+            || before_regions(registers.control(), address, kind, below_zero).is_some()
         {
             return;
         }
         if self.searches < SEARCHES {
             self.searches += 1;
         } else {
-            self.table.reload(&self.registers);
+            self.table.reload(registers);
             self.is_made = true;
         }
     }
 }
 
 impl Decider for LazyTable {
-    ghost decides_for = { λ t m. (t.registers ≡ m) × (t.is_made ≡ true → DecidesFor t.table m) };
+    ghost decides_for = { λ t m. ⟦<Search as Decider>⟧.decides_for t.search m × (t.is_made ≡ true → DecidesFor t.table m) };
 
     fn fresh(registers: &MpuRegs) -> Self {
         LazyTable {
-            registers: *registers,
+            search: Search::fresh(registers),
             table: Table::fresh(registers),
             is_made: true,
             searches: 0,
@@ -57,7 +59,7 @@ impl Decider for LazyTable {
     }
 
     fn reload(&mut self, registers: &MpuRegs) {
-        self.registers = *registers;
+        self.search.reload(registers);
         self.is_made = false;
         self.searches = 0;
     }
@@ -66,7 +68,7 @@ impl Decider for LazyTable {
         if self.is_made {
             self.table.decide(address, kind, privileged, below_zero)
         } else {
-            Search::fresh(&self.registers).decide(address, kind, privileged, below_zero)
+            self.search.decide(address, kind, privileged, below_zero)
         }
     }
 
@@ -85,7 +87,7 @@ impl Decider for LazyTable {
         if self.is_made {
             self.table.span(address)
         } else {
-            Search::fresh(&self.registers).span(address)
+            self.search.span(address)
         }
     }
 }
