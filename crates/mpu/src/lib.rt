@@ -9,7 +9,7 @@ mod registers;
 mod rules;
 mod spans;
 
-pub use decider::{Decider, Search};
+pub use decider::{Decider, KindDecisions, Search};
 pub use platform::access::{Decision, Kind, Rule};
 pub use platform::mpu::{MpuRegister, MpuStop, Region};
 pub use regions::{is_region_enabled, size, switched_off};

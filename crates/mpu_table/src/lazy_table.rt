@@ -5,7 +5,7 @@ ghost use Rattle.mpu_table.specs.Tables.{DecidesFor};
 ghost use Rattle.platform.specs.Regions.{Mpu};
 
 use crate::table::Table;
-use mpu::{Decider, Decision, Kind, MpuRegs, Search, Span, before_regions};
+use mpu::{Decider, Decision, Kind, KindDecisions, MpuRegs, Search, Span, before_regions};
 
 /// How many decisions of regions are made by a search before the table is made: it takes as long as some of them.
 const SEARCHES: u8 = 8;
@@ -81,6 +81,14 @@ impl Decider for LazyTable {
     ) -> Decision {
         self.make_table_for(address, kind, below_zero);
         self.decide(address, kind, privileged, below_zero)
+    }
+
+    fn decide_kinds(&self, address: u32, privileged: bool) -> KindDecisions {
+        if self.is_made {
+            self.table.decide_kinds(address, privileged)
+        } else {
+            self.search.decide_kinds(address, privileged)
+        }
     }
 
     fn span(&self, address: u32) -> Span {
