@@ -50,7 +50,7 @@ pub fn access_uncached<D: Decider, C: KeptCode, L: Exceptions, U: SysTickState, 
 
 /// Appends the lines of an access that was done.
 #[inline(always)]
-fn put_done<S: Sink>(events: &mut S, tick: u64, request: &Request, done: &DoneAccess)
+pub fn put_done<S: Sink>(events: &mut S, tick: u64, request: &Request, done: &DoneAccess)
     requires room { length (S.emitted events.old).events + lines_of request.now ≤ MAX_EVENTS }
     requires of_request { IsOf request.now (Done done.now) }
     ensures events { S.emitted events.new

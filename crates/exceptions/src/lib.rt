@@ -10,7 +10,7 @@ mod returning;
 mod state;
 
 pub use access::{Bus, Decider, Exceptions, SysTickState};
-pub use accesses::accessed;
+pub use accesses::{accessed, put_done};
 pub use faults::{fault_of, usage_fault_of};
 pub use reference::accesses::Values;
 pub use state::Core;

@@ -7,6 +7,7 @@ pub mod laws;
 mod lists;
 mod machine;
 mod next_step;
+mod on_bus;
 mod peeking;
 mod permit;
 mod placing;
