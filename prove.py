@@ -54,8 +54,9 @@ def read_rows():
     rows, found = {}, {}
     with open(f"{TOP}/crates.txt", encoding="utf-8") as file:
         for line in file:
-            words = re.split(r"[:\s]+", line.partition("#")[0].strip())
-            rows[words[0]] = (line, words[1:])
+            name, _, below = line.partition("#")[0].partition(":")
+            if name.strip():
+                rows[name.split()[0]] = (line, below.split())
 
     def visit(name):
         if name in rows and name not in found:
