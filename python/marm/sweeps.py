@@ -4,8 +4,9 @@ from __future__ import annotations
 
 import operator
 import pickle
+import threading
 import traceback
-from concurrent.futures import Executor, Future, ThreadPoolExecutor
+from concurrent.futures import Executor, Future, ThreadPoolExecutor, wait
 from contextlib import closing
 from dataclasses import dataclass
 from typing import Any, Callable, Generator, Iterable, NamedTuple, Optional, Sequence, TypeVar, Union
@@ -109,13 +110,14 @@ class _Task:
     goes_on: bool
     is_apart: bool  # in another process, perhaps
 
-    def __call__(self, part: Part) -> list[_Outcome]:
-        """Returns the outcomes of these variants; the last is that of the exception that ends the sweep, if any."""
+    def __call__(self, part: Part, ended: Optional[threading.Event] = None) -> list[_Outcome]:
+        """Returns the outcomes of these variants; the last is that of the exception that ends the sweep, if any, or
+        that of the variant in which the sweep was ended elsewhere."""
         found = []
         with closing(self.outcomes(part)) as outcomes:
             for outcome in outcomes:
                 found.append(_portable(outcome) if self.is_apart else outcome)
-                if outcome.error is not None and not self.goes_on:
+                if outcome.error is not None and not self.goes_on or ended is not None and ended.is_set():
                     break
         return found
 
@@ -187,20 +189,31 @@ class _Bench:
 
 
 def _do_elsewhere(executor: Executor, task: _Task, parts: Sequence[Part], found: _Found) -> None:
-    """Does the chunks by an executor, and takes their outcomes in the order of the chunks."""
-    futures = [executor.submit(task, part) for part in parts]
+    """Does the chunks by an executor, and takes their outcomes in the order of the chunks. Those that it does in this
+    process have ended when this returns or raises: while a thread starts a program, a fork (that of a pool of
+    processes) keeps the pipe by which the thread learns that the program has started, and both wait for ever."""
+    ended = None if task.is_apart else threading.Event()
+    futures = [executor.submit(task, part, ended) for part in parts]
     try:
         for part, future in zip(parts, futures):
             found.take(_outcomes_of(future, part))
     except SweepError as error:
+        _end(futures, ended)
         for future in futures:
             if future.done() and not future.cancelled() and future.exception() is None:
                 found.keep(future.result())
         error.results = found.results
         raise
     finally:
-        for future in futures:
-            future.cancel()
+        _end(futures, ended)
+
+
+def _end(futures: Sequence[Future[list[_Outcome]]], ended: Optional[threading.Event]) -> None:
+    """Takes back the chunks that haven't begun. Ends those of this process after the variant that each is at."""
+    begun = [future for future in futures if not future.cancel()]
+    if ended is not None:
+        ended.set()
+        wait(begun)
 
 
 def _outcomes_of(future: Future[list[_Outcome]], part: Part) -> list[_Outcome]:

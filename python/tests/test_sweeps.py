@@ -194,6 +194,27 @@ class Sweeps(unittest.TestCase):
             error = self.failed(range(10), fails_last, executor=pool, chunk=1)
         self.assertEqual((str(error), error.results), ("variant 0: RuntimeError", [(k, k) for k in range(1, 10)]))
 
+    def test_no_thread_goes_on(self) -> None:
+        """Once the error is out no call is under way, and none follows: a fork while a machine starts would keep its
+        start from ending. The results of those that had begun are there."""
+        begun, calls = threading.Event(), []
+
+        def fails_first(m: marm.Machine, variant: int) -> int:
+            if variant == 0:
+                begun.wait(60)
+                raise RuntimeError
+            begun.set()
+            time.sleep(0.02)
+            calls.append(variant)
+            return variant
+
+        with ThreadPoolExecutor(2) as pool:
+            error = self.failed(range(200), fails_first, executor=pool, chunk=100)
+            results = [(k, k) for k in calls]
+            time.sleep(0.2)
+            self.assertEqual(([*error.results], [(k, k) for k in calls]), (results, results))
+        self.assertIn(len(results), range(1, 100))
+
     def test_exceptions_as_values(self) -> None:
         """The sweep goes on, and each stands in its variant's place."""
         with ProcessPoolExecutor(2) as pool, ThreadPoolExecutor(2) as threads:
