@@ -1,3 +1,5 @@
 pub mod Fetching
+mod FrameWords
 pub mod LineBounds
 pub mod Performing
+mod Vectors

@@ -1,77 +1,50 @@
 //! Exception entry in two steps (ARM DDI 0403, `PushStack()` and `ExceptionTaken()`).
 
-ghost use Rattle.std.specs.Prelude.{◌≡◌, ◌<◌, ◌≤◌, [], length};
+ghost use Rattle.std.specs.Prelude.{◌≡◌, ◌<◌, ◌≤◌, ℕ, true, [], IfSome, length};
 ghost use Rattle.instruction_set.specs.declared.size.Size.TheVariants.{Word};
-ghost use Rattle.exceptions.specs.Performing.{ContinuesWith, StepsTo};
+ghost use Rattle.platform.specs.declared.access.Kind.TheVariants.{Vector};
+ghost use Rattle.platform.specs.declared.access.Rule.TheVariants.{VectorRead};
+ghost use Rattle.platform.specs.Outcomes.{done};
+ghost use Rattle.reference.specs.Accesses.{access_lines, perform};
 ghost use Rattle.reference.specs.LoadStore.{request};
+ghost use Rattle.reference.specs.State.{with_bus};
+ghost use Rattle.trace.specs.Emission.{with_emitted};
+ghost use Rattle.exceptions.specs.Performing.{ContinuesWith, StepsTo, value_for};
 ghost use Rattle.reference.specs.ExceptionEntry as spec;
 ghost use Rattle.reference.specs.ExceptionEntry.{handler_entered, vector_refused, exception_taken, begin_entry};
 
+use crate::accesses::{access_uncached, accessed};
 use crate::faults::vector_fault;
+use crate::frames::{Frame, perform_frame, word};
 use crate::state::Core;
 use access::{Decider, Exceptions, KeptCode, SysTickState};
 use instruction_set::size::Size;
-use platform::access::{Access, Kind, Request};
+use platform::access::{Kind, Request, Rule};
 use platform::event::{Event, EventKind, MAX_EVENTS};
 use platform::exception::{HARD_FAULT, NMI};
-use reference::accesses::{Requests, Values};
+use reference::accesses::Values;
 use reference::failure::Failure;
-use regs::Regs;
 use trace::sink::Sink;
 
-/// Returns accesses to words that follow one another upward from an address.
-pub fn words_from(kind: Kind, privileged: bool, address: u32, values: &[u32]) -> Requests
-    requires { length values.now ≤ 8 }
-    ensures { result.items ≡ spec.words_from kind privileged address values.now }
-{
-    let mut requests = Requests::new();
-    let mut next = address;
-    'values: for &value in values {
-        requests.push(word(kind, privileged, next, value));
-        next = next.wrapping_add(4);
-    }
-    requests
-}
-
-/// Returns an access to a word.
-fn word(kind: Kind, privileged: bool, address: u32, value: u32) -> Request
-    ensures { result ≡ request kind privileged Word address value }
-{
-    Request {
-        access: Access {
-            address,
-            kind,
-            size: Size::Word,
-            privileged,
-        },
-        value,
-    }
-}
-
-/// Returns the pushes of a frame, with the privilege of the code that is interrupted.
-#[tactic(auto, unfolding(reference::specs::ExceptionEntry::pushes))]
-fn pushes(regs: &Regs) -> Requests
-    ensures { result.items ≡ spec.pushes regs.now }
-{
-    let frame = regs.frame();
-    words_from(
-        Kind::Push,
-        regs.is_privileged(),
-        regs.frame_address(),
-        frame.as_slice(),
-    )
-}
+/// The Peripheral region (ARM DDI 0403 B3.1) begins here, with the device window. A vector at an address below it is
+/// what memory has there.
+const PERIPHERAL_BASE: u32 = 0x4000_0000;
 
 impl<D: Decider, C: KeptCode, L: Exceptions, U: SysTickState> Core<D, C, L, U> {
     /// Pushes the frame: a Stack step.
-    #[tactic(auto, using(crate::proofs::LineBounds::pushed), unfolding(reference::specs::ExceptionEntry::begin_entry))]
+    #[tactic(auto, unfolding(reference::specs::ExceptionEntry::begin_entry, reference::specs::ExceptionEntry::pushes))]
     pub fn begin_entry<S: Sink>(&mut self, events: &mut S)
         requires { (S.emitted events.old).events ≡ [] }
         ensures { StepsTo S.emitted events.old events.new self.new (begin_entry self.old) }
     {
-        let requests = pushes(&self.regs);
+        let frame = Frame {
+            kind: Kind::Push,
+            privileged: self.regs.is_privileged(),
+            address: self.regs.frame_address(),
+        };
+        let words = self.regs.frame();
         let mut values = Values::new();
-        let pushed = self.perform_all(events, requests.as_slice(), &mut values);
+        let pushed = perform_frame(self, events, &frame, words.as_slice(), &mut values);
         self.entry = Some(self.regs.exc_return());
         self.regs.reserve_frame();
         self.asleep = false;
@@ -98,14 +71,47 @@ impl<D: Decider, C: KeptCode, L: Exceptions, U: SysTickState> Core<D, C, L, U> {
         requires small { exception < 256 }
         ensures { StepsTo S.emitted events.old events.new self.new (exception_taken self.old exc_return exception) }
     {
-        let request = self.vector_read(exception);
-        let tick = self.ticks();
-        let mut kept = true;
-        match self.access(tick, events, &mut kept, &request) {
+        match self.read_vector(events, exception) {
             Ok(vector) => self.enter_handler(events, exc_return, exception, vector),
             Err(Failure::Refused(_, _)) => self.refuse_vector(events, exception),
             Err(failure) => self.fail(events, failure),
         }
+    }
+
+    /// Reads the vector of an exception, and appends the line of the read. No rule refuses it, so most vectors are read
+    /// in memory, and no kept rule is asked.
+    fn read_vector<S: Sink>(&mut self, events: &mut S, exception: u16) -> Result<u32, Failure>
+        requires empty { (S.emitted events.old).events ≡ [] }
+        requires small { exception < 256 }
+        ensures state { self.new ≡ with_bus self.old
+            (perform self.old.registers.exception self.old.bus (spec.vector_read self.old exception)).after }
+        ensures events { S.emitted events.new ≡ with_emitted (S.emitted events.old)
+            (access_lines self.old.bus.system.time.ticks (spec.vector_read self.old exception)
+            (perform self.old.registers.exception self.old.bus (spec.vector_read self.old exception)).performed) }
+        ensures room { length (S.emitted events.new).events ≤ 1 }
+        ensures answer { result ≡ value_for self.old (spec.vector_read self.old exception) }
+    {
+        let request = self.vector_read(exception);
+        let tick = self.ticks();
+        if let Some(vector) = self.vector_in_memory(request.access.address) {
+            events.emit(accessed(tick, &request, Rule::VectorRead, None));
+            return Ok(vector);
+        }
+        access_uncached(self.regs.exception(), &mut self.bus, tick, events, request)
+    }
+
+    /// Returns the vector that a read returns at this address, if memory has it there.
+    #[inline(always)]
+    #[tactic(auto, using(crate::proofs::Vectors::vector_done))]
+    fn vector_in_memory(&self, address: u32) -> Option<u32>
+        ensures { IfSome result (λ vector. (exception : ℕ)
+            → perform exception self.now.bus (request Vector true Word address 0)
+            ≡ record { after = self.now.bus; performed = done VectorRead vector }) }
+    {
+        if address >= PERIPHERAL_BASE {
+            return None;
+        }
+        self.bus.memory().number(address, Size::Word)
     }
 
     /// Returns the read of the vector of an exception.

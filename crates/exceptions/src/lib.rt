@@ -5,6 +5,7 @@
 mod accesses;
 mod entry;
 mod faults;
+mod frames;
 pub mod laws;
 mod returning;
 mod state;

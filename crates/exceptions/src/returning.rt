@@ -13,7 +13,7 @@ ghost use Rattle.reference.specs.Faults.{failed};
 ghost use Rattle.platform.specs.Priorities.{candidate};
 ghost use Rattle.reference.specs.State.{with_system};
 
-use crate::entry::words_from;
+use crate::frames::{Frame, perform_frame};
 use crate::state::Core;
 use access::{Decider, Exceptions, KeptCode, SysTickState};
 use instruction_set::unpredictable::UnpredictableCase;
@@ -21,7 +21,7 @@ use platform::access::Kind;
 use platform::event::{Event, EventKind, MAX_EVENTS};
 use platform::exception::NMI;
 use platform::stop::Stop;
-use reference::accesses::{Requests, Values};
+use reference::accesses::Values;
 use reference::failure::{Failure, UsageFault};
 use regs::{Regs, returns_on_psp, returns_to_handler};
 use trace::sink::Sink;
@@ -64,20 +64,6 @@ fn returns_privileged(regs: &Regs, exc_return: u32) -> bool
     ensures { result ≡ spec.returns_privileged regs.now exc_return }
 {
     returns_to_handler(exc_return) || !regs.npriv()
-}
-
-/// Returns the pops of a frame, with the privilege of the code that is returned to.
-#[tactic(auto, unfolding(reference::specs::ExceptionReturn::pops))]
-fn pops(regs: &Regs, exc_return: u32) -> Requests
-    ensures { result.items ≡ spec.pops regs.now exc_return }
-{
-    let blank = [0; 8];
-    words_from(
-        Kind::Pop,
-        returns_privileged(regs, exc_return),
-        regs.returned_stack(exc_return),
-        blank.as_slice(),
-    )
 }
 
 impl<D: Decider, C: KeptCode, L: Exceptions, U: SysTickState> Core<D, C, L, U> {
@@ -155,16 +141,19 @@ impl<D: Decider, C: KeptCode, L: Exceptions, U: SysTickState> Core<D, C, L, U> {
     }
 
     /// Pops the frame.
-    #[tactic(auto, using(crate::proofs::LineBounds::popped), unfolding(reference::specs::ExceptionReturn::pop_stack))]
+    #[tactic(auto, unfolding(reference::specs::ExceptionReturn::pop_stack, reference::specs::ExceptionReturn::pops))]
     fn pop_stack<S: Sink>(&mut self, events: &mut S, exc_return: u32)
         requires { length (S.emitted events.old).events + 9 ≤ MAX_EVENTS }
         ensures { ContinuesWith S.emitted events.old events.new self.new (λ es. pop_stack self.old es exc_return) }
     {
-        let requests = pops(&self.regs, exc_return);
+        let frame = Frame {
+            kind: Kind::Pop,
+            privileged: returns_privileged(&self.regs, exc_return),
+            address: self.regs.returned_stack(exc_return),
+        };
         let mut values = Values::new();
-        let served = self.perform_all(events, requests.as_slice(), &mut values);
-        match served {
-            Ok(_) => self.unstack(events, exc_return, values.as_slice()),
+        match perform_frame(self, events, &frame, &[0; 8], &mut values) {
+            Ok(()) => self.unstack(events, exc_return, values.as_slice()),
             Err(failure) => {
                 self.entry = Some(exc_return);
                 self.fail(events, failure);
