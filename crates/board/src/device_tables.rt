@@ -20,28 +20,34 @@ use platform::board::Layout;
 use platform::error::BoardError;
 use toml::{Table, Value};
 
-/// Returns the devices of a document, on a board with this layout, or the first refusal among them.
+/// Finds the devices of a document, on a board with this layout, or returns the first refusal among them. Nothing has
+/// been found before.
 #[tactic(auto, unfolding(crate::specs::Devices::devices_at))]
-pub fn devices_at(layout: &Layout, document: &Table) -> Result<FoundDevices, BoardError>
-    ensures { Gives (λ found. found) result (devices_at (numbers_of layout.now) (table_view document.now)) }
+pub fn devices_at(
+    layout: &Layout,
+    document: &Table,
+    found: &mut FoundDevices,
+) -> Result<(), BoardError>
+    requires { found.old ≡ [] }
+    ensures { Gives (λ _. found.new) result (devices_at (numbers_of layout.now) (table_view document.now)) }
 {
     let values = tables(find(document, "device"), MAX_DEVICES)?;
-    devices_of(layout, values)
+    devices_of(layout, values, found)
 }
 
-// The devices of a list of tables.
-fn devices_of(layout: &Layout, values: &[Value]) -> Result<FoundDevices, BoardError>
-    requires { length values.now ≤ 256 }
-    ensures { Gives (λ found. found) result (devices_in (numbers_of layout.now) 0 [] (items_view values.now)) }
+// Finds the devices of a list of tables.
+fn devices_of(layout: &Layout, values: &[Value], found: &mut FoundDevices) -> Result<(), BoardError>
+    requires few { length values.now ≤ 256 }
+    requires none { found.old ≡ [] }
+    ensures { Gives (λ _. found.new) result (devices_in (numbers_of layout.now) 0 [] (items_view values.now)) }
 {
-    let mut found = FoundDevices::new();
     let mut before = 0;
     'values: for value in values {
         let device = listed_device(layout, before, found.devices(), value)?;
         before += u64::from(device.size);
         found.push(&device);
     }
-    Ok(found)
+    Ok(())
 }
 
 /// Returns the device of a list of tables that a value describes, after the devices before it, which have `before`

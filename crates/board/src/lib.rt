@@ -83,7 +83,8 @@ pub fn board_of_table(alloc: Global, document: &Table) -> Result<Board, BoardErr
         return Err(BoardError::UnknownKey);
     }
     let layout = with_second_ram(layout, document)?;
-    let found = devices_at(&layout, document)?;
+    let mut found = FoundDevices::new();
+    devices_at(&layout, document, &mut found)?;
     let devices = found.devices();
     let values = tables(find(document, "event"), MAX_SCRIPT_EVENTS)?;
     let events = script_of(alloc, layout.interrupts, devices, values)?;

@@ -16,7 +16,8 @@ use std::marker::Model;
 pub struct SavedState<L: Exceptions, U: SysTickState> {
     regs: Regs,
     memory: PhysicalMemory,
-    system: SavedSystem<L, U>,
+    /// On the heap, so that a copy that is moved takes little of the stack.
+    system: Box<SavedSystem<L, U>>,
     asleep: bool,
     entry: Option<u32>,
     stop: Option<Stop>,
@@ -29,7 +30,7 @@ impl<L: Exceptions, U: SysTickState> Model for SavedState<L, U> {
 
     ghost view = { λ k. record {
       registers = k.regs;
-      bus = record { memory = k.memory; system = k.system };
+      bus = record { memory = k.memory; system = k.system.value };
       asleep = k.asleep;
       entry = k.entry;
       stop = k.stop;
@@ -38,6 +39,7 @@ impl<L: Exceptions, U: SysTickState> Model for SavedState<L, U> {
 
 impl<L: Exceptions, U: SysTickState> SavedState<L, U> {
     /// Returns a copy of a core's state, or fails where memory can't be allocated.
+    #[inline(never)]
     pub fn of<D: Decider, C: KeptCode>(
         alloc: Global,
         core: &Core<D, C, L, U>,
@@ -45,7 +47,7 @@ impl<L: Exceptions, U: SysTickState> SavedState<L, U> {
         ensures { IfOk result (λ saved. saved ≡ core.now) }
     {
         let memory = core.bus.memory().copied(alloc)?;
-        let system = core.bus.system.save(alloc)?;
+        let system = Box::new(alloc, core.bus.system.save(alloc)?)?;
         Ok(SavedState {
             regs: core.regs.copied(),
             memory,
