@@ -2,6 +2,7 @@ pub mod Describing
 pub mod Spans
 pub mod Making
 pub mod Placing
+pub mod PlacesMade
 pub mod Spanning
 pub mod Texts
 pub mod Unique
