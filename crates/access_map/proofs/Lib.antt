@@ -3,6 +3,7 @@ pub mod Spans
 pub mod Making
 pub mod Placing
 pub mod PlacesMade
+pub mod OnePlaces
 pub mod Spanning
 pub mod Texts
 pub mod Unique

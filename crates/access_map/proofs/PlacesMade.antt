@@ -25,23 +25,23 @@ use Rattle.platform.specs.declared.board.Layout.{Layout}
 use Rattle.platform.specs.Map.{ram_base}
 
 -- an address is in a place
-abbrev has : BoardPlace → ℕ → Bool
+abbrev pub has : BoardPlace → ℕ → Bool
 has p a = nat_le p.first a && nat_le a p.last
 
 -- ---- which addresses a list of places has
 
-misses_before : (p : BoardPlace) (a : ℕ) → a < p.first → has p a ≡ false
+pub misses_before : (p : BoardPlace) (a : ℕ) → a < p.first → has p a ≡ false
 misses_before p a h =
     ap (λ (b : Bool). b && nat_le a p.last) (let e : nat_le p.first a ≡ false = grind (arith, nat_tests) in e)
 
-misses_after : (p : BoardPlace) (a : ℕ) → p.last < a → has p a ≡ false
+pub misses_after : (p : BoardPlace) (a : ℕ) → p.last < a → has p a ≡ false
 misses_after p a h = lead (nat_le p.first a) (let e : nat_le a p.last ≡ false = grind (arith, nat_tests) in e)
   where
     lead : (b : Bool) → nat_le a p.last ≡ false → (b && nat_le a p.last) ≡ false
     lead true e = e
     lead false e = refl
 
-hits : (p : BoardPlace) (a : ℕ) → p.first ≤ a → a ≤ p.last → has p a ≡ true
+pub hits : (p : BoardPlace) (a : ℕ) → p.first ≤ a → a ≤ p.last → has p a ≡ true
 hits p a above below =
     let e : nat_le p.first a ≡ true = grind (arith, nat_tests) in
     let f : nat_le a p.last ≡ true = grind (arith, nat_tests) in
