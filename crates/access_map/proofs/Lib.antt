@@ -2,6 +2,8 @@ pub mod Describing
 pub mod Spans
 pub mod Making
 pub mod Placing
+pub mod PlacesMade
+pub mod OnePlaces
 pub mod Spanning
 pub mod Texts
 pub mod Unique

@@ -1,4 +1,6 @@
 pub mod Worlds
+pub mod Places
+pub mod Growing
 pub mod Maps
 pub mod Sharing
 pub mod Stretches

@@ -2,12 +2,15 @@
 
 ghost use Rattle.std.specs.Prelude.{◌≡◌, ◌↔◌, ℕ, [], List};
 ghost use Rattle.access_map.specs.Maps.{IsMapOf, IsPlaceMap};
+ghost use Rattle.access_map.specs.Places.{ArePlacesOf};
 ghost use Rattle.access_map.specs.Settings.{IsSameSetting};
 ghost use Rattle.access_map.specs.Worlds.{decision_in};
 ghost use Rattle.access_map.specs.Sharing.{AreWorldsApart, AreShared};
+ghost use Rattle.access_map.specs.declared.board_place.BoardPlace.{BoardPlace};
 ghost use Rattle.access_map.specs.declared.interval.Interval.{Interval};
 ghost use Rattle.access_map.specs.declared.world.Place.{Place};
 ghost use Rattle.access_map.specs.declared.world.World.{World};
+ghost use Rattle.devices.specs.declared.device.Device.{Device};
 ghost use Rattle.mpu.specs.declared.spans.Span.{Span};
 ghost use Rattle.platform.specs.Boards.{Numbers};
 ghost use Rattle.platform.specs.declared.access.Kind.{Kind};
@@ -17,6 +20,13 @@ ghost use Rattle.platform.specs.declared.access.Kind.{Kind};
 pub fn map_is_unique()
     ensures { (w : World) (board : Numbers) (place : Place) (xs ys : List Interval)
         → IsPlaceMap w board place xs → IsPlaceMap w board place ys → xs ≡ ys }
+{}
+
+/// A board with some devices has one list of places: two lists that have the same addresses of each kind, rise, and are
+/// as long as possible are the same list.
+pub fn places_are_unique()
+    ensures { (board : Numbers) (devices : List Device) (ps qs : List BoardPlace)
+        → ArePlacesOf board devices ps → ArePlacesOf board devices qs → ps ≡ qs }
 {}
 
 /// Worlds in which the MPU has the same setting decide each access alike: they have the same rights everywhere, by the

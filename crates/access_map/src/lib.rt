@@ -3,7 +3,9 @@
 #![tactic(auto)]
 
 mod apart;
+mod board_place;
 mod counting;
+mod filling;
 mod interval;
 mod later;
 pub mod laws;
@@ -17,7 +19,9 @@ mod world;
 mod world_lines;
 
 pub use apart::are_all_apart;
+pub use board_place::{BoardPlace, PlaceKind};
 pub use counting::{MAX_WORLDS, WorldSteps, Worlds};
+pub use filling::board_places;
 pub use interval::Interval;
 pub use lines::{Line, map_text, pair_text};
 pub use map::{AccessMap, PlaceMap};

@@ -187,7 +187,7 @@ fn cut_at_ram(board: &Layout, first: u32) -> Span
 }
 
 /// Returns the beginning of a span of which a place has all addresses or none.
-fn cut_at_place(board: &Layout, place: Place, within: Span) -> Span
+pub(crate) fn cut_at_place(board: &Layout, place: Place, within: Span) -> Span
     requires some { within.first ≤ within.last }
     ensures first { result.first ≡ within.first }
     ensures some { result.first ≤ result.last }
@@ -218,7 +218,7 @@ fn cut(spans: &[Span], within: Span) -> Span
 }
 
 /// Returns the beginning of a span of which another has all addresses or none.
-fn cut_at(span: Span, within: Span) -> Span
+pub(crate) fn cut_at(span: Span, within: Span) -> Span
     requires some { within.first ≤ within.last }
     ensures first { result.first ≡ within.first }
     ensures some { result.first ≤ result.last }
