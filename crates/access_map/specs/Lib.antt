@@ -5,6 +5,7 @@ pub mod Maps
 pub mod Sharing
 pub mod Stretches
 pub mod Lines
+pub mod Notes
 pub mod Settings
 pub mod Counting
 pub mod Names
