@@ -25,13 +25,13 @@ from .registers import Registers
 from .results import Decision, Ran, Region, Span, State
 from .session import Saved
 from .sweeps import Result, sweep, windows
-from .worlds import Interval, Note, Shared, Stack, Tasks, World, tasks
+from .worlds import Interval, Shared, Tasks, World, tasks
 
 __all__ = [
     "ENTRY", "FAULT", "REFUSED", "Access", "Accesses", "At", "Batch", "Board", "BoardEvent", "CommandError",
     "Condition", "Console", "Dead", "Decision", "Device", "Entry", "Event", "Fault", "Hung", "Interval", "Later",
-    "Machine", "MarmError", "NoProgram", "NoSlot", "NotMemory", "NotReached", "Note", "PlaceRefused", "ProgramInfo",
+    "Machine", "MarmError", "NoProgram", "NoSlot", "NotMemory", "NotReached", "PlaceRefused", "ProgramInfo",
     "ProtocolError", "Ram", "Ran", "Reads", "Region", "Registers", "Result", "Return", "Saved", "Shared", "Span",
-    "Stack", "StartError", "State", "Stop", "SweepError", "Tasks", "Until", "Watch", "World", "Writes", "build_image",
+    "StartError", "State", "Stop", "SweepError", "Tasks", "Until", "Watch", "World", "Writes", "build_image",
     "parse_event", "program_info", "sweep", "symbols_of", "tasks", "windows",
 ]

@@ -12,13 +12,12 @@ from .wire import Program, find_program, run_to_end
 
 __tracebackhide__ = True  # pytest shows no frame of the package
 
-NOTES = {"misaligned": 1, "opens": 2, "wx": 0}  # the words of lines about regions, and how many regions they name
 WROTE_ALL = (0, 4)  # the statuses of a run; 4 is another stop than a breakpoint or the limit of steps
 
 
 class Interval(NamedTuple):
-    """The addresses from `first` to `last` of a place ("flash", "ram", "device", "window"), where a world has the same
-    rights (as "rw-") by the same rule."""
+    """The addresses from `first` to `last` of a place ("flash", "ram", "window"), where a world has the same rights
+    (as "rw-") by the same rule."""
 
     first: int
     last: int
@@ -32,39 +31,11 @@ class Interval(NamedTuple):
         return region_of(self.rule)
 
 
-class Stack(NamedTuple):
-    """The stack of a world, from `first` to `last`. `low` is the least SP of the run."""
-
-    first: int
-    last: int
-    low: int
-
-    @property
-    def left(self) -> int:
-        """How many bytes were left at the least SP. It is below 0 where SP went below the stack."""
-        return self.low - self.first
-
-
-class Note(NamedTuple):
-    """What a careful reader says of a world's regions, about the bytes from `first` to `last`.
-
-    `kind` is "misaligned": the base `first` of `region` has bits below the region's size; "opens": unprivileged code
-    has a right by `region`, where region `below` would leave the bytes to privileged code alone; or "wx": the world may
-    write and execute the bytes."""
-
-    kind: str
-    first: int
-    last: int
-    region: Optional[int] = None
-    below: Optional[int] = None
-
-
 class World(NamedTuple):
     """A setting of the MPU under which unprivileged code ran.
 
     `steps` were made; the first began in `tick` at `pc`, and all between `lowest` and `highest`. `name` is that of the
-    symbol that has `pc`, or None. `map` has each address of flash, RAM, devices and the window. `stack` is None where
-    no line says where the stack is; `notes` are about the regions."""
+    symbol that has `pc`, or None. `map` has each address of flash, RAM and the device window."""
 
     number: int
     steps: int
@@ -74,15 +45,13 @@ class World(NamedTuple):
     highest: int
     name: Optional[str]
     map: list[Interval]
-    stack: Optional[Stack]
-    notes: list[Note]
 
     def at(self, address: int) -> Interval:
         """Returns the interval of an address. IndexError where it is in no place of the board."""
         for interval in self.map:
             if interval.first <= address <= interval.last:
                 return interval
-        raise IndexError(f"{address:08X} is in no place of the board")
+        raise IndexError(f"{address:08X} is in neither flash nor RAM nor the window")
 
 
 class Shared(NamedTuple):
@@ -149,10 +118,6 @@ def tasks_of(lines: Sequence[str]) -> Tasks:
             found.worlds.append(_world(line, len(found.worlds) + 1))
         elif kind == "map":
             _put_interval(found.worlds[-1], words)
-        elif kind == "stack":
-            found.worlds[-1] = _with_stack(found.worlds[-1], words)
-        elif kind in NOTES:
-            _put_note(found.worlds[-1], kind, words)
         elif kind == "others":
             found = found._replace(others=int(words[0]))
         elif kind == "shares":
@@ -173,41 +138,15 @@ def _world(line: str, number: int) -> World:
         raise ValueError(f"not the line of world {number}: {line!r}")
     return World(
         number, int(words[3]), int(words[5]), int(pc, 16), int(lowest, 16), int(highest, 16),
-        name[0] if name else None, [], None, [],
+        name[0] if name else None, [],
     )
-
-
-def _check_number(world: World, number: str) -> None:
-    if int(number) != world.number:
-        raise ValueError(f"a line of world {number} after the line of world {world.number}")
 
 
 def _put_interval(world: World, words: Sequence[str]) -> None:
     number, first, last, place, rights, rule = words
-    _check_number(world, number)
+    if int(number) != world.number:
+        raise ValueError(f"a map of world {number} after the line of world {world.number}")
     world.map.append(Interval(int(first, 16), int(last, 16), place, rights, rule))
-
-
-def _with_stack(world: World, words: Sequence[str]) -> World:
-    number, *facts = words
-    _check_number(world, number)
-    if facts == ["none"]:
-        return world
-    first, last, low_word, low, left_word, left = facts
-    stack = Stack(int(first, 16), int(last, 16), int(low, 16))
-    if (low_word, left_word) != ("low", "left") or left != (str(stack.left) if stack.left >= 0 else "over"):
-        raise ValueError(f"not a stack of world {number}: {words!r}")
-    return world._replace(stack=stack)
-
-
-def _put_note(world: World, kind: str, words: Sequence[str]) -> None:
-    number, *facts = words
-    _check_number(world, number)
-    regions = [region_of(word) for word in facts[:NOTES[kind]]]
-    first, last = facts[NOTES[kind]:] * (2 if kind == "misaligned" else 1)
-    if None in regions:
-        raise ValueError(f"no region: {words!r}")
-    world.notes.append(Note(kind, int(first, 16), int(last, 16), *regions))
 
 
 def _check_pairs(found: Tasks, apart: set[tuple[int, int]]) -> None:

@@ -56,37 +56,11 @@ shares 2 1 20000220 2000023F
 stop lockup
 """
 
-# Lines of that machine about a kernel with faults of its regions, with other numbers of worlds. Most are left out; the
-# lines of `wx` and of a stack that isn't known were worked out by hand.
-REGIONS = """\
-world 1 steps 323 tick 7221 pc 08004048 code 08004040 08004086 sensor
-map 1 20001400 200017FF ram rw- r4
-map 1 40000000 40000FFF window --- none
-map 1 40012400 4001244F device rw- r6
-stack 1 20001400 200017FF low 200017C8 left 968
-misaligned 1 r5 200018A0
-world 2 steps 3848 tick 8333 pc 08004120 code 08004000 08004158 deeper
-map 2 20000600 200007FF ram rwx r4
-stack 2 20000600 200007FF low 200005C0 left over
-opens 2 r4 r2 20000600 200007FF
-wx 2 20000600 200007FF
-world 3 steps 1 tick 9000 pc 08004200 code 08004200 08004200
-map 3 20000600 200007FF ram --- none
-stack 3 none
-apart 1 2
-apart 1 3
-apart 2 3
-stop steps
-"""
-
 NONE = (
     "", "stop breakpoint 0", "shares 1 2 20000220\nstop breakpoint 0\n", "world 2 steps 1\nstop breakpoint 0\n",
     "map 1 00000000 000000FF flash --- none\nstop breakpoint 0\n", OVERLAP.replace("others", "other"),
     OVERLAP.replace("others 17", "apart 1 2"), OVERLAP.replace("map 2", "map 1"),
-    ROUND_ROBIN.replace("apart 1 3\n", ""), REGIONS.replace("left 968", "left 967"), REGIONS.replace("over", "0"),
-    REGIONS.replace("left 968", "left over"), REGIONS.replace("low", "high"), REGIONS.replace("stack 2", "stack 1"),
-    REGIONS.replace("r5", "none"), REGIONS.replace("opens 2 r4 r2", "opens 2 r4"), REGIONS.replace("wx 2", "wx 1"),
-    REGIONS.replace("stack 3 none", "stack 3"),
+    ROUND_ROBIN.replace("apart 1 3\n", ""),
 )
 
 
@@ -109,16 +83,6 @@ class Lines(unittest.TestCase):
         self.assertEqual(tasks.shared, [(1, 2, 0x2000_0220, 0x2000_023F), (2, 1, 0x2000_0220, 0x2000_023F)])
         self.assertFalse(tasks.apart or tasks.are_apart(1, 2) or tasks.are_apart(2, 1))
         self.assertEqual((tasks.worlds[1].name, tasks.others, str(tasks.stop)), (None, 17, "lockup"))
-
-    def test_stacks_devices_and_regions(self) -> None:
-        sensor, deeper, other = tasks_of(REGIONS.split("\n")).worlds
-        self.assertEqual(sensor.stack, (0x2000_1400, 0x2000_17FF, 0x2000_17C8))
-        self.assertEqual([world.stack and world.stack.left for world in (sensor, deeper, other)], [968, -64, None])
-        self.assertEqual(sensor.at(0x4001_2404)[2:], ("device", "rw-", "r6"))
-        self.assertEqual(sensor.notes, [("misaligned", 0x2000_18A0, 0x2000_18A0, 5, None)])
-        self.assertEqual(deeper.notes, [("opens", 0x2000_0600, 0x2000_07FF, 4, 2),
-                                        ("wx", 0x2000_0600, 0x2000_07FF, None, None)])
-        self.assertEqual(other.notes, [])
 
     def test_no_tasks(self) -> None:
         tasks = tasks_of(["stop breakpoint 0", ""])
