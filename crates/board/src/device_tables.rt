@@ -20,10 +20,19 @@ use platform::board::Layout;
 use platform::error::BoardError;
 use toml::{Table, Value};
 
-/// Finds the devices of a document, on a board with this layout, or returns the first refusal among them. Nothing has
-/// been found before.
+/// Returns the devices of a document, on a board with this layout, or the first refusal among them.
+pub fn devices_at(layout: &Layout, document: &Table) -> Result<FoundDevices, BoardError>
+    ensures { Gives (λ found. found) result (devices_at (numbers_of layout.now) (table_view document.now)) }
+{
+    let mut found = FoundDevices::new();
+    find_devices(layout, document, &mut found)?;
+    Ok(found)
+}
+
+/// Finds the devices of a document, as `devices_at` returns them, in a place that has none yet: the caller's frame has
+/// them once.
 #[tactic(auto, unfolding(crate::specs::Devices::devices_at))]
-pub fn devices_at(
+pub fn find_devices(
     layout: &Layout,
     document: &Table,
     found: &mut FoundDevices,

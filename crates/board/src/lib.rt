@@ -33,7 +33,7 @@ pub use device_parts::{Effects, Span, Values};
 pub use device_span::{
     DEFAULT_DEVICE_BYTES, is_device_word, is_driven, is_followed, is_in_device, is_named, span_in,
 };
-pub use device_tables::{devices_at, goes_with, has_device_keys, listed_device};
+pub use device_tables::{devices_at, find_devices, goes_with, has_device_keys, listed_device};
 pub use device_values::{DEFAULT_PLACES, PLACES, flag, stores_named, values_in};
 pub use devices::{Device, Line, MAX_DEVICES, Poke, Stores};
 pub use events::{MAX_SCRIPT_EVENTS, change, is_free_line, nmi};
@@ -84,7 +84,7 @@ pub fn board_of_table(alloc: Global, document: &Table) -> Result<Board, BoardErr
     }
     let layout = with_second_ram(layout, document)?;
     let mut found = FoundDevices::new();
-    devices_at(&layout, document, &mut found)?;
+    find_devices(&layout, document, &mut found)?;
     let devices = found.devices();
     let values = tables(find(document, "event"), MAX_SCRIPT_EVENTS)?;
     let events = script_of(alloc, layout.interrupts, devices, values)?;

@@ -103,6 +103,7 @@ pub fn place_by<D: Decider, C: KeptCode, L: Exceptions, U: SysTickState>(
 }
 
 /// Returns the text of `explain`: the line of the rule, and what the rule means.
+#[inline(never)]
 fn decided_text(decision: &Decision) -> Page<2048>
     ensures { result ≡ decided_text decision.now }
 {
@@ -182,6 +183,7 @@ fn report<W: Out>(text: &[u8], out: &mut W) -> Result<(), IoError>
 
 /// Writes the text of a command, in packets. `why` is the last refusal of a packet, and `refused` that of the
 /// command's value.
+#[inline(never)]
 pub fn report_command<D: Decider, C: KeptCode, L: Exceptions, U: SysTickState, W: Out>(
     machine: &Machine<D, C, L, U>,
     past: &Past<L, U>,

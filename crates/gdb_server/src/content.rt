@@ -80,6 +80,7 @@ impl Data {
     }
 
     /// Returns the last signal, with all registers.
+    #[inline(never)]
     pub fn of_signal<D: Decider, C: KeptCode, L: Exceptions, U: SysTickState>(
         signal: Signal,
         machine: &Machine<D, C, L, U>,
@@ -92,6 +93,7 @@ impl Data {
     }
 
     /// Returns the digits of all registers.
+    #[inline(never)]
     pub fn of_registers<D: Decider, C: KeptCode, L: Exceptions, U: SysTickState>(
         machine: &Machine<D, C, L, U>,
     ) -> Self
@@ -134,6 +136,7 @@ impl Data {
     }
 
     /// Returns the region of an address on a board with these devices.
+    #[inline(never)]
     pub fn of_region(board: &Layout, devices: &[Device], address: u32) -> Self
         requires { length devices.now ≤ 256 }
         ensures { result ≡ region_at (numbers_of board.now) devices.now address }
@@ -144,6 +147,7 @@ impl Data {
     }
 
     /// Returns what the thread is at.
+    #[inline(never)]
     pub fn of_thread(activity: Activity, sleeps: bool) -> Self
         ensures { result ≡ thread_reply activity sleeps }
     {

@@ -46,6 +46,7 @@ pub fn activity_of<D: Decider, C: KeptCode, L: Exceptions, U: SysTickState>(
 }
 
 /// Returns the digits of the register of a number.
+#[inline(never)]
 fn register_data<D: Decider, C: KeptCode, L: Exceptions, U: SysTickState>(
     machine: &Machine<D, C, L, U>,
     number: u32,
@@ -60,6 +61,7 @@ fn register_data<D: Decider, C: KeptCode, L: Exceptions, U: SysTickState>(
 }
 
 /// Returns the digits of the bytes from an address on, as many as can be read.
+#[inline(never)]
 fn memory_data<D: Decider, C: KeptCode, L: Exceptions, U: SysTickState>(
     machine: &Machine<D, C, L, U>,
     address: u32,
@@ -76,6 +78,7 @@ fn memory_data<D: Decider, C: KeptCode, L: Exceptions, U: SysTickState>(
 }
 
 /// Returns a piece of a text, from an offset on.
+#[inline(never)]
 fn piece_data(text: &[u8], offset: u32, count: u32) -> Result<Data, ErrorCode>
     ensures { result ≡ piece_data text.now offset count }
 {
@@ -90,6 +93,7 @@ fn piece_data(text: &[u8], offset: u32, count: u32) -> Result<Data, ErrorCode>
 const MAX_MAP: usize = 17_408;
 
 /// Returns a piece of the map of the memory.
+#[inline(never)]
 fn map_piece(board: &Layout, devices: &[Device], offset: u32, count: u32) -> Result<Data, ErrorCode>
     requires { length devices.now ≤ 256 }
     ensures { result ≡ piece_data (memory_map (numbers_of board.now) devices.now) offset count }

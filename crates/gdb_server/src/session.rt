@@ -285,6 +285,7 @@ impl<L: Exceptions, U: SysTickState> Session<L, U> {
     }
 
     /// Makes a change of the session. Returns the data of the reply.
+    #[inline(never)]
     fn set(&mut self, change: SessionChange, tail: &[u8]) -> Result<Data, ErrorCode>
         ensures answer { result ≡ set_data self.old change }
         ensures kept { self.new ≡ session_after self.old change tail.now }
@@ -346,6 +347,7 @@ impl<L: Exceptions, U: SysTickState> Session<L, U> {
     }
 
     /// Writes to the machine, and answers.
+    #[inline(never)]
     fn write<D: Decider, C: KeptCode, W: Out>(
         &mut self,
         machine: &mut Machine<D, C, L, U>,
@@ -409,6 +411,7 @@ impl<L: Exceptions, U: SysTickState> Session<L, U> {
     }
 
     /// Carries out a command of `monitor`, and answers.
+    #[inline(never)]
     fn command<D: Decider, C: KeptCode, W: Out>(
         &mut self,
         machine: &mut Machine<D, C, L, U>,
@@ -546,6 +549,7 @@ impl<L: Exceptions, U: SysTickState> Session<L, U> {
     }
 
     /// Takes the machine back to its first state, and answers as to `?`.
+    #[inline(never)]
     fn begin<D: Decider, C: KeptCode, W: Out>(
         &mut self,
         machine: &mut Machine<D, C, L, U>,

@@ -18,7 +18,7 @@ returns-clause-board c =
       devices = c.in-Ok.devices;
     }) (script_is _ _ _ _ _ c.in_ok-events.ensures)
     (subst (HaveLinesOfBoard layout.interrupts) (sym (c.in-Ok.ensures ∙ c.devices-devices.ensures.value))
-    (lines_at (numbers_of layout) _ _ c.in_ok-devices_at.ensures))
+    (lines_at (numbers_of layout) _ _ c.in_ok-find_devices.ensures))
 
 pub returns-clause-wired : goal.returns-clause-wired
 returns-clause-wired c =
@@ -26,5 +26,5 @@ returns-clause-wired c =
     let same = c.devices-devices.ensures.value in
     subst (λ (devices : List Device). AreWired devices events) (sym c.in-Ok.ensures)
     (subst (λ (devices : List Device). AreWired devices events) (sym same)
-    (are_wired (numbers_of c.in_ok-layout-2.layout) _ _ _ _ _ events c.in_ok-devices_at.ensures
+    (are_wired (numbers_of c.in_ok-layout-2.layout) _ _ _ _ _ events c.in_ok-find_devices.ensures
     (rw same at c.in_ok-events.ensures)))
