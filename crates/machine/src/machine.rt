@@ -74,7 +74,8 @@ pub enum RunError {
 /// exceptions are kept by an `L`, and whose ticks are counted by a `U`.
 #[derive(Drop)]
 pub struct Machine<D: Decider, C: KeptCode, L: Exceptions, U: SysTickState> {
-    core: Processor<D, C, L, U>,
+    /// On the heap, so that a machine that is moved takes little of the stack.
+    core: Box<Processor<D, C, L, U>>,
     /// A permit for the next step. What changes the core between steps takes it away.
     permit: Permit,
     broken: bool,
@@ -100,9 +101,9 @@ impl<D: Decider, C: KeptCode, L: Exceptions, U: SysTickState> Model for Machine<
 
     ghost Value = { MachineModel };
 
-    ghost view = { λ m. record { state = m.core; broken = m.broken } };
+    ghost view = { λ m. record { state = m.core.value; broken = m.broken } };
 
-    ghost invariant = { λ m. PermitHolds m.permit m.core };
+    ghost invariant = { λ m. PermitHolds m.permit m.core.value };
 }
 
 impl<D: Decider, C: KeptCode, L: Exceptions, U: SysTickState> Machine<D, C, L, U> {

@@ -1,6 +1,7 @@
 //! The start of a core (ARM DDI 0403, TakeReset()).
 
 ghost use Rattle.std.specs.Prelude.{◌≡◌, true, map};
+ghost use Rattle.std.specs.Result.{result_map_both};
 ghost use Rattle.board.specs.Reading.{described};
 ghost use Rattle.machine.specs.Starts.{StartsAt};
 ghost use Rattle.platform.specs.Boards.{numbers_of};
@@ -29,8 +30,8 @@ pub fn start_core<D: Decider, C: KeptCode, L: Exceptions, U: SysTickState>(
     alloc: Global,
     image: &Image<'_>,
     board: &Board,
-) -> Result<Processor<D, C, L, U>, StartError>
-    ensures { StartsAt (start (described board.now) image.now) result }
+) -> Result<Box<Processor<D, C, L, U>>, StartError>
+    ensures { StartsAt (start (described board.now) image.now) (result_map_both (λ core. core.value) (λ e. e) result) }
 {
     if !are_placed(&board.layout, image.segments()) {
         return Err(StartError::SegmentOutsideMemory);
@@ -60,7 +61,10 @@ pub fn start_core<D: Decider, C: KeptCode, L: Exceptions, U: SysTickState>(
     let Ok(memory) = CodeMemory::new(alloc, physical, image_bytes(image.segments())) else {
         return Err(StartError::NoMemory);
     };
-    Ok(Processor::new(regs, Bus::new(memory, system)))
+    match Box::new(alloc, Processor::new(regs, Bus::new(memory, system))) {
+        Ok(core) => Ok(core),
+        Err(_) => Err(StartError::NoMemory),
+    }
 }
 
 /// Returns how many bytes an image loads, as far as a `usize` holds them: room for instructions is made by it.
