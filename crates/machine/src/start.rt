@@ -46,12 +46,10 @@ pub fn start_core<D: Decider, C: KeptCode, L: Exceptions, U: SysTickState>(
         return Err(StartError::NoMemory);
     };
     load_segments(&mut physical, image.segments());
-    let regs = Regs::reset(
-        physical.vector(board.layout.flash_base, 0),
-        physical.vector(board.layout.flash_base, 1),
-    );
+    let base = board.layout.flash_base;
+    let regs = Regs::reset(physical.vector(base, 0), physical.vector(base, 1));
     let system = System::reset(
-        board.layout.flash_base,
+        base,
         board.layout.interrupts,
         board.layout.priority_bits,
         board.layout.regions.number(),
