@@ -4,10 +4,10 @@
     prove.py FOLDER     FOLDER is for the work
 
 The room is a copy of the crates that marm is built on, without their mutations. So the program counts as proved where
-CI would pass these crates, an edit changes nothing that is being proved, and no other command has to wait. `rt ci`
-proves crates side by side, each as soon as those that it uses are done. A kit that keeps each proof on this computer
-has a later run, of CI too, take what this one has proved, also where it was stopped or killed. MARM_JOBS is the most
-crates that are proved side by side.
+CI would pass these crates but for mutations, an edit changes nothing that is being proved, and no other command has to
+wait. `rt ci` proves crates side by side, each as soon as those that it uses are done. A kit that keeps each proof on
+this computer has a later run, of CI too, take what this one has proved, also where it was stopped or killed. MARM_JOBS
+is the most crates that are proved side by side.
 """
 
 import fcntl
@@ -226,7 +226,7 @@ def install(room, sources):
 
 def prove(folder, lock):
     """Proves and builds the program. Returns the status to end with."""
-    say("proving and building the program; from nothing that takes an hour or less on 4 cores")
+    say("proving and building the program; from nothing that takes some hour on 4 cores")
     room, rows = tempfile.mkdtemp(dir=f"{folder}/rooms"), read_rows()
     make_room(room, rows)
     sources = sources_of(room)
