@@ -2,8 +2,8 @@
 
 import tomllib
 
-# KiB of stack: without its board, for a byte of the board's file, and at most.
-STACK, STACK_OF_BOARD, MAX_STACK = 320, 0.25, 3072
+# KiB of stack: without its board, in a session of gdb, for a byte of the board's file, and at most.
+STACK, STACK_OF_GDB, STACK_OF_BOARD, MAX_STACK = 192, 256, 0.25, 3072
 
 # KiB of address space: of the program with 2 MiB of flash and RAM and 32 MiB of kept instructions, for a byte of the
 # image's file, and of the board's.
@@ -40,7 +40,7 @@ def memory(board):
 
 def limits(image, board, is_gdb):
     """Returns the limits of a run or a session, as options of the shell's `ulimit`."""
-    stack = min(STACK + STACK_OF_BOARD * len(board), MAX_STACK)
+    stack = min((STACK_OF_GDB if is_gdb else STACK) + STACK_OF_BOARD * len(board), MAX_STACK)
     first, second = memory(board)
     space = SPACE + second + SPACE_OF_IMAGE * len(image) + SPACE_OF_BOARD * len(board)
     if is_gdb:
