@@ -226,7 +226,7 @@ def install(room, sources):
 
 def prove(folder, lock):
     """Proves and builds the program. Returns the status to end with."""
-    say("proving and building the program; from nothing that takes some hour on 4 cores")
+    say("proving and building the program; from nothing that takes about an hour on 4 cores")
     room, rows = tempfile.mkdtemp(dir=f"{folder}/rooms"), read_rows()
     make_room(room, rows)
     sources = sources_of(room)
